@@ -1,0 +1,18 @@
+//! What all crates share: calls on memory with their replies, plans, and where bytes come from and go to.
+#![tactic(auto)]
+
+mod list;
+mod memory;
+mod outside;
+mod plan;
+mod status;
+mod streams;
+mod told;
+
+pub use list::{Bytes, List};
+pub use memory::{Addr, Live, Looked, NoMemory, Op, Reply};
+pub use outside::{Failed, Sink, Source};
+pub use plan::{BlockPlan, EnclavePlan, Plan};
+pub use status::Status;
+pub use streams::{StdSink, StdSource};
+pub use told::{FreeSink, FreeSource, ListSink, ListSource};
