@@ -6,7 +6,7 @@ use Rattle.eleos_base.specs.declared.told.FreeSource.{FreeSource}
 
 -- the bytes that are left
 abbrev pub source_left : ListSource → List ℕ
-source_left s = drop s.taken s.bytes.items
+source_left s = drop s.source.taken s.source.bytes.items
 
 -- the bytes that were put
 abbrev pub sink_got : ListSink → List ℕ

@@ -47,13 +47,41 @@ impl Faults {
     }
 }
 
-/// Bytes in memory to be taken.
+/// Bytes in memory to be taken, which never fails.
 #[derive(Drop)]
-pub struct ListSource {
+pub struct FreeSource {
     bytes: Vec<u8>,
     taken: usize,
-    faults: Faults,
     ghost within: { taken ≤ length bytes.items },
+}
+
+impl FreeSource {
+    ghost use Rattle.eleos_base.specs.Told.{free_left};
+
+    pub fn new(bytes: Vec<u8>) -> Self
+        ensures { free_left result ≡ bytes.items }
+    {
+        FreeSource { bytes, taken: 0 }
+    }
+}
+
+impl Source for FreeSource {
+    ghost left = { λ s. Some (drop s.taken s.bytes.items) };
+
+    ghost faults = { λ s. 0 };
+
+    fn take(&mut self, buf: &mut [u8]) -> Result<usize, Failed> {
+        let count = copy_front(&self.bytes[self.taken..], buf);
+        self.taken += count;
+        Ok(count)
+    }
+}
+
+/// Bytes in memory to be taken, where the calls with these numbers fail.
+#[derive(Drop)]
+pub struct ListSource {
+    source: FreeSource,
+    faults: Faults,
 }
 
 impl ListSource {
@@ -63,15 +91,14 @@ impl ListSource {
         ensures { source_left result ≡ bytes.items }
     {
         ListSource {
-            bytes,
-            taken: 0,
+            source: FreeSource::new(bytes),
             faults: Faults::new(fail_at),
         }
     }
 }
 
 impl Source for ListSource {
-    ghost left = { λ s. Some (drop s.taken s.bytes.items) };
+    ghost left = { λ s. Some (drop s.source.taken s.source.bytes.items) };
 
     ghost faults = { λ s. s.faults.count };
 
@@ -79,9 +106,7 @@ impl Source for ListSource {
         if self.faults.strikes() {
             return Err(Failed);
         }
-        let count = copy_front(&self.bytes[self.taken..], buf);
-        self.taken += count;
-        Ok(count)
+        self.source.take(buf)
     }
 }
 
@@ -135,36 +160,6 @@ impl Sink for ListSink {
             return Err(Failed);
         }
         Ok(piece.len())
-    }
-}
-
-/// Bytes in memory to be taken, which never fails.
-#[derive(Drop)]
-pub struct FreeSource {
-    bytes: Vec<u8>,
-    taken: usize,
-    ghost within: { taken ≤ length bytes.items },
-}
-
-impl FreeSource {
-    ghost use Rattle.eleos_base.specs.Told.{free_left};
-
-    pub fn new(bytes: Vec<u8>) -> Self
-        ensures { free_left result ≡ bytes.items }
-    {
-        FreeSource { bytes, taken: 0 }
-    }
-}
-
-impl Source for FreeSource {
-    ghost left = { λ s. Some (drop s.taken s.bytes.items) };
-
-    ghost faults = { λ s. 0 };
-
-    fn take(&mut self, buf: &mut [u8]) -> Result<usize, Failed> {
-        let count = copy_front(&self.bytes[self.taken..], buf);
-        self.taken += count;
-        Ok(count)
     }
 }
 

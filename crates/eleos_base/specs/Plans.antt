@@ -1,0 +1,41 @@
+-- Plans: sizes, who belongs where, and which plans are good.
+use Rattle.std.specs.Prelude.{ℕ, ◌+◌, ◌-◌, ◌*◌, ◌/◌, ◌^◌, ◌<◌, ◌≤◌, List, length, All, sum_by, slice_index}
+use Rattle.eleos_base.specs.declared.plan.Plan.{Plan}
+use Rattle.eleos_base.specs.declared.plan.EnclavePlan.{EnclavePlan}
+
+-- bytes of a page
+abbrev pub page_bytes : ℕ
+page_bytes = 4096
+
+-- bytes of a sub-page of the enclave
+abbrev pub sub_bytes : Plan → ℕ → ℕ
+sub_bytes plan enclave = 1024
+
+-- sub-pages of so many pages of the enclave
+abbrev pub subs_in : Plan → ℕ → ℕ → ℕ
+subs_in plan enclave pages = page_bytes * pages / sub_bytes plan enclave
+
+-- the enclave of a caller, who are numbered from 1
+abbrev pub enclave_of : Plan → ℕ → ℕ
+enclave_of plan who = slice_index plan.callers (who - 1)
+
+-- a caller of the plan
+pub record IsCaller (plan : Plan) (who : ℕ) : Type 0 where
+  pub from_one : 1 ≤ who
+  pub within : who ≤ length plan.callers
+
+abbrev pub AreGoodPages : List EnclavePlan → Type 0
+AreGoodPages enclaves = All (λ enclave. (1 ≤ enclave.pages) × (enclave.pages ≤ 1024)) enclaves
+
+-- what every plan keeps to; header blocks are judged beside it
+pub record IsGood (plan : Plan) : Type 0 where
+  pub some_enclave : 1 ≤ length plan.enclaves
+  pub enclaves : length plan.enclaves ≤ 8
+  pub pages : AreGoodPages plan.enclaves
+  pub all_pages : sum_by (λ enclave. enclave.pages) plan.enclaves ≤ 4096
+  pub frames : sum_by (λ enclave. enclave.frames) plan.enclaves + plan.spare ≤ 512
+  pub some_caller : 1 ≤ length plan.callers
+  pub callers : length plan.callers ≤ 8
+  pub at_home : All (λ enclave. enclave < length plan.enclaves) plan.callers
+  pub some_wear : 1 ≤ plan.wear
+  pub wear : plan.wear ≤ 2 ^ 63
