@@ -1,0 +1,4 @@
+mod Tables
+mod States
+mod KeyWords
+mod FourBlocks

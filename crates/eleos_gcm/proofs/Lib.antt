@@ -1,0 +1,6 @@
+mod Masks
+mod XorBytes
+mod Counters
+mod Padding
+mod HornerRule
+mod HashParts

@@ -1,0 +1,12 @@
+//! Authenticated encryption by GCM with AES, by SP 800-38D, with nonces of 12 bytes and tags of 16.
+#![tactic(auto)]
+
+mod counter;
+mod field;
+mod gcm;
+mod hash;
+#[cfg(test)]
+mod tests;
+
+pub use gcm::Gcm;
+pub use hash::ghash;
