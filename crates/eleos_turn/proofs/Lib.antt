@@ -1,0 +1,13 @@
+pub mod Numbers
+pub mod Histories
+pub mod Keeps
+pub mod Steps
+pub mod Seats
+pub mod Calls
+pub mod Links
+pub mod Owns
+pub mod Sound
+pub mod Fits
+pub mod Gathered
+pub mod Counts
+pub mod Clients

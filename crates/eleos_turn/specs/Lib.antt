@@ -1,0 +1,7 @@
+pub mod Numbers
+pub mod Words
+pub mod Views
+pub mod Rule
+pub mod Plays
+pub mod Hands
+pub mod Closings

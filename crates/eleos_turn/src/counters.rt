@@ -1,0 +1,151 @@
+//! A row of counters, a small client of the turnstile: an entry adds 1 to one or two of them.
+//! The tests run it, and edits of it show what the calls refuse.
+ghost use Rattle.std.specs.Prelude.{◌≡◌, ◌+◌, ◌<◌, [], length};
+
+use crate::{Hand, Taken, Turnstile};
+use eleos_base::{Plot, Tied};
+use std::sync::Wait;
+
+#[derive(Drop)]
+pub struct Counter {
+    pub count: u64,
+}
+
+/// The hand that makes the entry, and the counters that it raises.
+#[derive(Drop)]
+pub struct Raise {
+    pub by: u32,
+    pub first: u32,
+    pub second: Option<u32>,
+}
+
+pub struct Counters;
+
+impl Plot for Counters {
+    ghost use Rattle.std.specs.Prelude.{◌≡◌, ℕ, ◌+◌, ◌∷◌, option_to_list};
+    ghost use Rattle.std.proofs.Common.{sym, ap, ◌∙◌, []};
+    ghost use Rattle.eleos_base.specs.Ties.{Has, neither};
+
+    type Cell = Counter;
+
+    type Draft = Raise;
+
+    type Part = u64;
+
+    type Ground = ();
+
+    ghost terms = { record { part = λ c. c.count; blank = 0; nowhere = tt; who = λ e. e.by; foot = λ _ e. e.first ∷ option_to_list e.second; step = λ _ e b a. (c : ℕ) → Has c (e.first ∷ option_to_list e.second) → a c ≡ b c + 1; bare = λ _ _. []; tie = λ _ _. neither } };
+
+    fn tied(_draft: &Raise) -> Tied {
+        Tied::No
+    }
+
+    ghost local = { λ g e b a b' a' same h c in_foot. let s = same c in_foot in s.1 ∙ (h c in_foot ∙ ap (λ n. n + 1) (sym s.0)) };
+}
+
+/// Adds 1 to the first counter, and answers the stamp. None where no stamp is left or it is full.
+pub(crate) fn raise_one<R: Wait>(
+    rt: &R,
+    all: &Turnstile<Counters>,
+    hand: &mut Hand<Counters>,
+    by: u32,
+) -> Option<u64>
+    requires own { hand.old.home ≡ all.now }
+    requires cells { 1 < length all.now.base.opening }
+    requires idle { hand.old.turns ≡ [] }
+    requires by { (hand.old.number ≡ by) × (0 < by) }
+    ensures own { hand.new.home ≡ hand.old.home }
+    ensures idle { hand.new.turns ≡ [] }
+    ensures by { hand.new.number ≡ hand.old.number }
+{
+    if hand.left() == 0 {
+        return None;
+    }
+    let Taken { word: _, mut value } = all.take(rt, hand, 0, true);
+    if value.count == u64::MAX {
+        all.give(hand, 0, value);
+        return None;
+    }
+    let entry = Raise {
+        by,
+        first: 0,
+        second: None,
+    };
+    let place = all.stamp(hand, &entry);
+    value.count += 1;
+    all.give(hand, 0, value);
+    Some(place)
+}
+
+/// Adds 1 to both counters, and answers the stamp. None where no stamp is left or one is full.
+pub(crate) fn raise_two<R: Wait>(
+    rt: &R,
+    all: &Turnstile<Counters>,
+    hand: &mut Hand<Counters>,
+    by: u32,
+) -> Option<u64>
+    requires own { hand.old.home ≡ all.now }
+    requires cells { 1 < length all.now.base.opening }
+    requires idle { hand.old.turns ≡ [] }
+    requires by { (hand.old.number ≡ by) × (0 < by) }
+    ensures own { hand.new.home ≡ hand.old.home }
+    ensures idle { hand.new.turns ≡ [] }
+    ensures by { hand.new.number ≡ hand.old.number }
+{
+    if hand.left() == 0 {
+        return None;
+    }
+    let Taken {
+        word: _,
+        value: mut one,
+    } = all.take(rt, hand, 0, true);
+    let Taken {
+        word: _,
+        value: mut two,
+    } = all.take(rt, hand, 1, true);
+    if one.count == u64::MAX || two.count == u64::MAX {
+        all.give(hand, 1, two);
+        all.give(hand, 0, one);
+        return None;
+    }
+    let entry = Raise {
+        by,
+        first: 0,
+        second: Some(1),
+    };
+    let stamp = all.stamp(hand, &entry);
+    one.count += 1;
+    two.count += 1;
+    all.give(hand, 1, two);
+    all.give(hand, 0, one);
+    Some(stamp)
+}
+
+/// Makes 1,000 entries, every second one on both counters, and keeps their stamps.
+pub(crate) fn raise_many<R: Wait>(
+    rt: &R,
+    all: &Turnstile<Counters>,
+    hand: Hand<Counters>,
+    by: u32,
+    stamps: Vec<u64>,
+) -> (Hand<Counters>, Vec<u64>)
+    requires own { hand.home ≡ all.now }
+    requires cells { 1 < length all.now.base.opening }
+    requires idle { hand.turns ≡ [] }
+    requires by { (hand.number ≡ by) × (0 < by) }
+    ensures { result.0.home ≡ hand.home }
+{
+    let mut hand = hand;
+    let mut stamps = stamps;
+    for i in 0..1000u32 {
+        let made = if i % 2 == 0 {
+            raise_one(rt, all, &mut hand, by)
+        } else {
+            raise_two(rt, all, &mut hand, by)
+        };
+        if let Some(stamp) = made {
+            let _ = stamps.push(stamp);
+        }
+    }
+    (hand, stamps)
+}
