@@ -1,0 +1,8 @@
+mod Good
+mod Inversion
+mod Keys
+pub mod Loop
+mod Numerals
+mod Others
+pub mod Steps
+pub mod Texts

@@ -1,0 +1,66 @@
+-- How reading goes on line by line.
+use Rattle.std.proofs.Common.{◌≡◌, ℕ, ◌+◌, List, [], ◌∷◌, ◌++◌, length, Result, Ok, Err, Bool, true, false, refl, sym, ap, append_assoc, cond, eqb, codes, arith}
+use Rattle.std.proofs.lemmas.Bool.Decides.{nat_tests}
+use Rattle.std.specs.List.{slice_split, onto_first}
+use Rattle.std.specs.Str.{bytes_eq}
+use Rattle.eleos_trace.specs.declared.word.Word.{Word}
+use Rattle.eleos_trace.specs.declared.trace.Line.{Line}
+use Rattle.eleos_trace.specs.declared.seen.Seen.{Seen}
+use Rattle.eleos_trace.specs.declared.why.Why.{Why}
+use Rattle.eleos_trace.specs.declared.why.Why.TheVariants.{Cut, After}
+use Rattle.eleos_trace.specs.declared.why.Bad.{Bad}
+use Rattle.eleos_trace.specs.Fields.{is_blank, is_newline}
+use Rattle.eleos_trace.specs.Reasons.{◌>>=◌}
+use Rattle.eleos_trace.specs.Commands.{word_of, seen_after}
+use Rattle.eleos_trace.specs.Reading.{commands_of, ended, by_caller}
+use Rattle.eleos_trace.proofs.Texts.{split_cases}
+
+-- these commands, and then the others where there are any
+abbrev pub with_front : List Line → Result (List Line) Bad → Result (List Line) Bad
+with_front front lines = lines >>= λ others. Ok (front ++ others)
+
+pub with_front-push : (front : List Line) (line : Line) (lines : Result (List Line) Bad) → with_front front (with_front (line ∷ []) lines) ≡ with_front (front ++ line ∷ []) lines
+with_front-push front line (Ok lines) = ap Ok (sym (append_assoc front (line ∷ []) lines))
+with_front-push front line (Err bad) = refl
+
+-- what the loop does at a line: text stands in it, and after behind it
+module _ (wear line : ℕ) (seen : Seen) (text after : List ℕ) where
+  -- the end
+  pub commands_of-end : bytes_eq text (codes "end") ≡ true → commands_of wear line seen (text ∷ slice_split is_newline after) ≡ ended (line + 1) (slice_split is_newline after)
+  unfolding commands_of
+  commands_of-end end = split_cases (λ parts. commands_of wear line seen (text ∷ parts) ≡ ended (line + 1) parts) (λ part parts. rw end) after
+
+  -- a command
+  pub commands_of-word : (word : Word) → bytes_eq text (codes "end") ≡ false → word_of wear seen (slice_split is_blank text) ≡ Ok word
+      → commands_of wear line seen (text ∷ slice_split is_newline after) ≡ with_front (by_caller word ∷ []) (commands_of wear (line + 1) (seen_after seen word) (slice_split is_newline after))
+  unfolding commands_of
+  commands_of-word word go_on is =
+      split_cases (λ parts. commands_of wear line seen (text ∷ parts) ≡ with_front (by_caller word ∷ []) (commands_of wear (line + 1) (seen_after seen word) parts)) (λ part parts. rw (go_on, is) refl) after
+
+  -- a bad line
+  pub commands_of-bad : (why : Why) → bytes_eq text (codes "end") ≡ false → word_of wear seen (slice_split is_blank text) ≡ Err why
+      → commands_of wear line seen (text ∷ slice_split is_newline after) ≡ Err (record { line = line; why = why })
+  unfolding commands_of
+  commands_of-bad why go_on is =
+      split_cases (λ parts. commands_of wear line seen (text ∷ parts) ≡ Err (record { line = line; why = why })) (λ part parts. rw (go_on, is) refl) after
+
+-- a last line that no newline ends
+pub commands_of-cut : (wear line : ℕ) (seen : Seen) (text : List ℕ) → commands_of wear line seen (text ∷ []) ≡ Err (record { line = line; why = Cut })
+unfolding commands_of
+commands_of-cut wear line seen text = refl
+
+-- something behind the end
+ended-more : (line c : ℕ) (cs : List ℕ) → ended line (slice_split is_newline (c ∷ cs)) ≡ Err (record { line = line; why = After })
+ended-more line c cs = by (is_newline c) where
+  by : (b : Bool) → ended line (cond b ([] ∷ slice_split is_newline cs) (onto_first c (slice_split is_newline cs))) ≡ Err (record { line = line; why = After })
+  by true = split_cases (λ parts. ended line ([] ∷ parts) ≡ Err (record { line = line; why = After })) (λ part parts. refl) cs
+  by false = split_cases (λ parts. ended line (onto_first c parts) ≡ Err (record { line = line; why = After })) (λ part parts. refl) cs
+
+-- what is behind the end, by its bytes
+pub ended-empty_text : (line : ℕ) (after : List ℕ) → eqb (length after) 0 ≡ true → ended line (slice_split is_newline after) ≡ Ok []
+ended-empty_text line [] empty = refl
+ended-empty_text line (c ∷ cs) empty = absurd (grind (arith, nat_tests))
+
+pub ended-more_text : (line : ℕ) (after : List ℕ) → eqb (length after) 0 ≡ false → ended line (slice_split is_newline after) ≡ Err (record { line = line; why = After })
+ended-more_text line [] more = cc
+ended-more_text line (c ∷ cs) more = ended-more line c cs

@@ -1,0 +1,47 @@
+-- The printed spelling of commands.
+use Rattle.std.specs.Prelude.{ℕ, List, [], ◌∷◌, ◌++◌, codes}
+use Rattle.std.specs.List.{join_with_byte}
+use Rattle.std.specs.Fmt.{decimal}
+use Rattle.hex.specs.Hex.{encode_lower}
+use Rattle.eleos_trace.specs.declared.why.Why.{Why}
+use Rattle.eleos_trace.specs.declared.why.Why.TheVariants.{TooLarge, Cut, After, Form, Many, Actor, Range, Name, Enclave, BadSize, NoSpace, Owner, Later}
+use Rattle.eleos_trace.specs.declared.word.Actor as actors
+use Rattle.eleos_trace.specs.declared.word.Actor.TheVariants.{Caller}
+use Rattle.eleos_trace.specs.declared.word.Word.{Word}
+use Rattle.eleos_trace.specs.declared.word.Word.TheVariants.{Alloc, Free, Read, Write}
+
+-- bytes in hex, in lower case, where a dash stands for none
+abbrev pub hex_text : List ℕ → List ℕ
+hex_text [] = codes "-"
+hex_text (b ∷ bs) = encode_lower (b ∷ bs)
+
+-- a reason, as it is printed
+abbrev pub why_text : Why → List ℕ
+why_text TooLarge = codes "toolarge"
+why_text Cut = codes "cut"
+why_text After = codes "after"
+why_text Form = codes "form"
+why_text Many = codes "many"
+why_text Actor = codes "actor"
+why_text Range = codes "range"
+why_text Name = codes "name"
+why_text Enclave = codes "enclave"
+why_text BadSize = codes "badsize"
+why_text NoSpace = codes "nospace"
+why_text Owner = codes "owner"
+why_text Later = codes "later"
+
+-- a command word by word
+abbrev pub fields : Word → List (List ℕ)
+fields (Alloc name bytes) = codes "alloc" ∷ name ∷ decimal bytes ∷ []
+fields (Free name) = codes "free" ∷ name ∷ []
+fields (Read name offset len) = codes "read" ∷ name ∷ decimal offset ∷ decimal len ∷ []
+fields (Write name offset bytes) = codes "write" ∷ name ∷ decimal offset ∷ hex_text bytes ∷ []
+
+-- a command, as `write a 0 41`
+abbrev pub word_text : Word → List ℕ
+word_text word = join_with_byte 32 (fields word)
+
+-- an actor, as `c1`
+abbrev pub actor_text : actors.Actor → List ℕ
+actor_text (Caller number) = codes "c" ++ decimal number
