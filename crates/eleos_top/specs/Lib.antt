@@ -1,0 +1,8 @@
+pub mod Addresses
+pub mod GcmAnswers
+pub mod GcmVectors
+pub mod Input
+pub mod Log
+pub mod Offset
+pub mod Outcome
+pub mod Replay

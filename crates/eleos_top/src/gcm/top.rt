@@ -1,0 +1,82 @@
+// The top call on vectors.
+ghost use Rattle.std.specs.Prelude.{◌≡◌, ◌≢◌, ◌↔◌, [], ◌∷◌, map, codes, IfOk, IfSome, IsErrOf, Ok, string_bytes};
+ghost use Rattle.eleos_base.specs.Outside.{HasRisen};
+ghost use Rattle.eleos_trace.specs.declared.why.Bad.{Bad};
+ghost use Rattle.eleos_top.specs.GcmAnswers.{AnswersVectors};
+ghost use Rattle.eleos_top.specs.GcmVectors.{vectors_in};
+ghost use Rattle.eleos_top.specs.Outcome.{PutsBy};
+
+use super::answers::answers;
+use super::reading::vectors_in;
+use super::vector::Vector;
+use crate::input::InputError;
+use crate::streams::{ReadError, put_lines, read_all};
+use crate::top::{is_only, refuse};
+use eleos_base::{Sink, Source, Status};
+use eleos_trace::{Bad, TraceRefused, Why};
+use std::alloc::Global;
+
+/// Answers vectors: reads them, asks the ciphers and puts what they say.
+pub fn gcm_top<S: Source, K: Sink>(
+    alloc: Global,
+    words: &[String],
+    source: &mut S,
+    sink: &mut K,
+) -> Status
+    // With status 0 the bytes put are the answers to the vectors; with another status nothing,
+    // the line that refuses the input, or a front.
+    ensures puts { PutsBy vectors_in AnswersVectors result (S.left source.old)
+        (K.got sink.old) (K.got sink.new) (K.faults sink.old) (K.faults sink.new) }
+
+    ensures usage { (result ≡ Status.Usage)
+        ↔ (map (λ word. string_bytes word) words.now ≢ codes "gcm" ∷ []) }
+    ensures read_fault { result ≡ Status.ReadFault → HasRisen (S.faults source.old) (S.faults source.new) }
+    ensures write_fault { result ≡ Status.WriteFault → HasRisen (K.faults sink.old) (K.faults sink.new) }
+    ensures always_legal { result ≢ Status.NotLegal }
+{
+    if !is_only(words, "gcm") {
+        return Status::Usage;
+    }
+    let vectors = match vectors_from(alloc, source) {
+        Ok(vectors) => vectors,
+        Err(InputError::Refused { bad }) => return refuse(alloc, sink, bad),
+        Err(InputError::Failed) => return Status::ReadFault,
+        Err(InputError::Memory) => return Status::Memory,
+    };
+    let Ok(text) = answers(alloc, &vectors) else {
+        return Status::Memory;
+    };
+    match put_lines(sink, &text) {
+        Ok(()) => Status::Done,
+        Err(_) => Status::WriteFault,
+    }
+}
+
+/// The vectors that the source has left.
+fn vectors_from<S: Source>(alloc: Global, source: &mut S) -> Result<Vec<Vector>, InputError>
+    ensures vectors { IfOk result (λ vectors.
+        IfSome (S.left source.old) (λ input. vectors_in input ≡ Ok vectors.items)) }
+    ensures refused { (bad : Bad) → result ≡ Err (InputError.Refused bad)
+        → IfSome (S.left source.old) (λ input. vectors_in input ≡ Err bad) }
+    ensures failed { IsErrOf result InputError.Failed → HasRisen (S.faults source.old) (S.faults source.new) }
+{
+    let input = match read_all(alloc, source) {
+        Ok(input) => input,
+        Err(ReadError::TooLarge) => return Err(refused(0, Why::TooLarge)),
+        Err(ReadError::Failed) => return Err(InputError::Failed),
+        Err(ReadError::Memory) => return Err(InputError::Memory),
+    };
+    match vectors_in(alloc, &input) {
+        Ok(vectors) => Ok(vectors),
+        Err(TraceRefused::Bad { line, why }) => Err(refused(line, why)),
+        Err(TraceRefused::NoMemory) => Err(InputError::Memory),
+    }
+}
+
+fn refused(line: u32, why: Why) -> InputError
+    ensures { result ≡ InputError.Refused (record { line = line; why = why }) }
+{
+    InputError::Refused {
+        bad: Bad { line, why },
+    }
+}

@@ -1,0 +1,53 @@
+// The input, with what it means.
+ghost use Rattle.std.specs.Prelude.{◌≡◌, IfOk, IsErrOf, IfSome};
+ghost use Rattle.eleos_base.specs.Outside.{HasRisen};
+ghost use Rattle.eleos_trace.specs.declared.why.Bad.{Bad};
+ghost use Rattle.eleos_trace.specs.Replays.{IsReplay};
+ghost use Rattle.eleos_top.specs.Input.{TellsTrace, TellsBad, later};
+
+use crate::streams::{ReadError, read_all};
+use eleos_base::Source;
+use eleos_trace::{Bad, Trace, TraceRefused, Why, parse};
+use std::alloc::Global;
+
+/// Why there is no trace.
+#[derive(Clone, Copy, Debug, PartialEq, Eq)]
+pub enum InputError {
+    /// The input is no trace, or has too many bytes.
+    Refused { bad: Bad },
+    /// The source failed.
+    Failed,
+    Memory,
+}
+
+/// The trace that the source has left.
+pub fn trace_in<S: Source>(alloc: Global, source: &mut S) -> Result<Trace, InputError>
+    ensures trace { IfOk result (λ trace. IfSome (S.left source.old) (TellsTrace trace)) }
+    ensures good { IfOk result (λ trace. IsReplay trace) }
+    ensures refused { (bad : Bad) → result ≡ Err (InputError.Refused bad) → IfSome (S.left source.old) (TellsBad bad) }
+    ensures failed { IsErrOf result InputError.Failed → HasRisen (S.faults source.old) (S.faults source.new) }
+{
+    let input = match read_all(alloc, source) {
+        Ok(input) => input,
+        Err(ReadError::TooLarge) => return Err(later()),
+        Err(ReadError::Failed) => return Err(InputError::Failed),
+        Err(ReadError::Memory) => return Err(InputError::Memory),
+    };
+    match parse(alloc, &input) {
+        Ok(trace) => Ok(trace),
+        Err(TraceRefused::Bad { .. }) => Err(later()),
+        Err(TraceRefused::NoMemory) => Err(InputError::Memory),
+    }
+}
+
+/// The program does not say yet where a text is no trace.
+fn later() -> InputError
+    ensures { result ≡ InputError.Refused later }
+{
+    InputError::Refused {
+        bad: Bad {
+            line: 0,
+            why: Why::Later,
+        },
+    }
+}
