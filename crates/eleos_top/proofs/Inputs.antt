@@ -1,34 +1,10 @@
--- What an input means, by its length.
-use Rattle.std.proofs.Common.{◌≡◌, ℕ, ◌<◌, ◌≤◌, List, [], ◌∷◌, length, Option, Some, None, IfSome, false, refl, arith, nat_le, get_or, take, drop, take-add, length-take, length-drop, Bool, true, take_all, ◌+◌, ◌-◌, Result, Err, subst}
+-- Fronts of a text that is put piece by piece.
+use Rattle.std.proofs.Common.{◌≡◌, ℕ, ◌<◌, ◌≤◌, List, [], ◌∷◌, length, Option, false, refl, arith, nat_le, get_or, take, drop, take-add, length-take, length-drop, Bool, true, take_all, ◌+◌, ◌-◌}
 use Rattle.std.proofs.lemmas.List.{take-take}
 use Rattle.std.specs.Io.KnownBytes.{Appends}
 use Rattle.std.proofs.KnownBytes.{Appends-trans}
 use Rattle.std.proofs.lemmas.Slice.{between_to_end}
 use Rattle.std.proofs.lemmas.Bool.Decides.{nat_tests}
-use Rattle.eleos_trace.specs.Reading.{trace_of, most_text}
-use Rattle.eleos_trace.specs.declared.trace.Trace.{Trace}
-use Rattle.eleos_trace.specs.declared.why.Bad.{Bad}
-use Rattle.eleos_top.specs.declared.input.InputError.{InputError}
-use Rattle.eleos_top.specs.declared.input.InputError.TheVariants as refusals
-use Rattle.eleos_top.specs.Input.{TellsBad, later}
-
-not_le : (a b : ℕ) → b < a → nat_le a b ≡ false
-not_le a b lt = grind (arith, nat_tests)
-
--- too many bytes are no trace
-pub TellsBad-large : (input : List ℕ) → most_text < length input → TellsBad later input
-unfolding trace_of
-TellsBad-large input large = rw (not_le (length input) most_text large) refl
-
--- nor are those of a source, where they are told
-pub IfSome-large : (left : Option (List ℕ)) → IfSome left (λ input. most_text < length input) → IfSome left (TellsBad later)
-IfSome-large (Some input) large = TellsBad-large input large
-IfSome-large None large = large
-
--- the refusal that is answered then
-pub IfSome-refused : (left : Option (List ℕ)) (e : InputError) (bad : Bad) → IfSome left (λ input. most_text < length input) → e ≡ refusals.Refused later
-    → ◌≡◌ {A = Result Trace InputError} (Err e) (Err (refusals.Refused bad)) → IfSome left (TellsBad bad)
-IfSome-refused left e bad large is same = subst (λ b. IfSome left (TellsBad b)) (let equal : later ≡ bad = cc in equal) (IfSome-large left large)
 
 pub within_text : (done count : ℕ) (text : List ℕ) → done ≤ length text → count ≤ length (take (length text - done) (drop done text)) → done + count ≤ length text
 within_text done count text at fits = omega (arith, length-take {A = ℕ}, length-drop {A = ℕ})

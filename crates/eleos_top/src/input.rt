@@ -3,7 +3,7 @@ ghost use Rattle.std.specs.Prelude.{◌≡◌, IfOk, IsErrOf, IfSome};
 ghost use Rattle.eleos_base.specs.Outside.{HasRisen};
 ghost use Rattle.eleos_trace.specs.declared.why.Bad.{Bad};
 ghost use Rattle.eleos_trace.specs.Replays.{IsReplay};
-ghost use Rattle.eleos_top.specs.Input.{TellsTrace, TellsBad, later};
+ghost use Rattle.eleos_top.specs.Input.{TellsTrace, TellsBad};
 
 use crate::streams::{ReadError, read_all};
 use eleos_base::Source;
@@ -29,25 +29,22 @@ pub fn trace_in<S: Source>(alloc: Global, source: &mut S) -> Result<Trace, Input
 {
     let input = match read_all(alloc, source) {
         Ok(input) => input,
-        Err(ReadError::TooLarge) => return Err(later()),
+        Err(ReadError::TooLarge) => return Err(refused(0, Why::TooLarge)),
         Err(ReadError::Failed) => return Err(InputError::Failed),
         Err(ReadError::Memory) => return Err(InputError::Memory),
     };
     match parse(alloc, &input) {
         Ok(trace) => Ok(trace),
-        Err(TraceRefused::Bad { .. }) => Err(later()),
+        Err(TraceRefused::Bad { line, why }) => Err(refused(line, why)),
         Err(TraceRefused::NoMemory) => Err(InputError::Memory),
     }
 }
 
-/// The program does not say yet where a text is no trace.
-fn later() -> InputError
-    ensures { result ≡ InputError.Refused later }
+/// The refusal of a line, by its number and reason.
+pub(crate) fn refused(line: u32, why: Why) -> InputError
+    ensures { result ≡ InputError.Refused (record { line = line; why = why }) }
 {
     InputError::Refused {
-        bad: Bad {
-            line: 0,
-            why: Why::Later,
-        },
+        bad: Bad { line, why },
     }
 }

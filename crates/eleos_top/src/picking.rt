@@ -1,9 +1,9 @@
 // Which top call the words ask for.
 ghost use Rattle.std.specs.Prelude.{◌≡◌, ◌≢◌, ◌↔◌, Some, map, IsTrue, codes, string_bytes};
 ghost use Rattle.std.specs.Io.KnownBytes.{Keeps};
+ghost use Rattle.eleos_trace.specs.Reading.{trace_of};
 ghost use Rattle.eleos_top.specs.GcmAnswers.{AnswersVectors};
 ghost use Rattle.eleos_top.specs.GcmVectors.{vectors_in};
-ghost use Rattle.eleos_top.specs.Input.{replayable};
 ghost use Rattle.eleos_top.specs.Outcome.{EndsBy, first_of};
 ghost use Rattle.eleos_top.specs.Replay.{IsLogOf};
 
@@ -20,7 +20,7 @@ pub fn main_top<S: Source, K: Sink>(
     sink: &mut K,
 ) -> Status
     ensures replay { first_of (map (λ word. string_bytes word) words.now) ≡ Some (codes "replay")
-        → EndsBy replayable IsLogOf (codes "replay") (map (λ word. string_bytes word) words.now) result
+        → EndsBy trace_of IsLogOf (codes "replay") (map (λ word. string_bytes word) words.now) result
         (S.left source.old) (K.got sink.old) (K.got sink.new)
         (S.faults source.old) (S.faults source.new) (K.faults sink.old) (K.faults sink.new) }
     ensures gcm { first_of (map (λ word. string_bytes word) words.now) ≡ Some (codes "gcm")

@@ -2,8 +2,8 @@
 ghost use Rattle.std.specs.Prelude.{◌≡◌, ◌≢◌, ◌↔◌, ◌⊎◌, [], ◌∷◌, map, IsTrue, codes, IfOk, string_bytes};
 ghost use Rattle.std.specs.Io.KnownBytes.{Keeps};
 ghost use Rattle.eleos_base.specs.Outside.{HasRisen};
-ghost use Rattle.eleos_top.specs.Input.{replayable};
 ghost use Rattle.eleos_top.specs.Replay.{IsLogOf};
+ghost use Rattle.eleos_trace.specs.Reading.{trace_of};
 ghost use Rattle.eleos_top.specs.Outcome.{PutsBy, PutsFront, refused_text};
 
 use crate::input::{InputError, trace_in};
@@ -15,16 +15,16 @@ use eleos_trace::Bad;
 use std::alloc::Global;
 
 /// Replays a trace: reads it, answers its commands and puts the log.
+///
+/// With status 0 the bytes put are the log of the trace, whose calls are one run of plain memory;
+/// with another status nothing, the line that refuses the input, or a front.
 pub fn replay_top<S: Source, K: Sink>(
     alloc: Global,
     words: &[String],
     source: &mut S,
     sink: &mut K,
 ) -> Status
-    // With status 0 the bytes put are the log of the trace, whose calls are one run of plain memory;
-    // with another status nothing, the line that refuses the input, or a front.
-    ensures puts { PutsBy replayable IsLogOf result (S.left source.old) (K.got sink.old) (K.got sink.new) (K.faults sink.old) (K.faults sink.new) }
-
+    ensures puts { PutsBy trace_of IsLogOf result (S.left source.old) (K.got sink.old) (K.got sink.new) (K.faults sink.old) (K.faults sink.new) }
     ensures usage { (result ≡ Status.Usage) ↔ (map (λ word. string_bytes word) words.now ≢ codes "replay" ∷ []) }
     ensures read_fault { result ≡ Status.ReadFault → HasRisen (S.faults source.old) (S.faults source.new) }
     ensures write_fault { result ≡ Status.WriteFault → HasRisen (K.faults sink.old) (K.faults sink.new) }
@@ -58,6 +58,7 @@ pub fn is_only(words: &[String], name: &str) -> bool
     }
 }
 
+/// Whether the word is spelled so.
 pub fn is_word(word: &str, name: &str) -> bool
     ensures { IsTrue result ↔ (word.now ≡ name.now) }
 {
@@ -73,6 +74,7 @@ pub fn refuse<K: Sink>(alloc: Global, sink: &mut K, bad: Bad) -> Status
     let Ok(text) = refused_text(alloc, bad) else {
         return Status::Memory;
     };
+    // a sink that fails here has a front of the line; the refusal stands
     match put_all(sink, &text) {
         Ok(()) => Status::Refused,
         Err(_) => Status::Refused,

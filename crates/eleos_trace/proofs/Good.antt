@@ -6,23 +6,25 @@ use Rattle.std.proofs.lemmas.Bool.Decides.{nat_tests}
 use Rattle.std.proofs.lemmas.List.Elements.{All-from_recursion}
 use Rattle.eleos_base.specs.declared.plan.EnclavePlan.{EnclavePlan}
 use Rattle.eleos_base.specs.Plans.{IsGood, IsCaller}
-use Rattle.eleos_trace.specs.declared.word.Word.{Word}
 use Rattle.eleos_trace.specs.declared.trace.Line.{Line}
 use Rattle.eleos_trace.specs.declared.trace.Trace.{Trace}
 use Rattle.eleos_trace.specs.declared.seen.Seen.{Seen}
 use Rattle.eleos_trace.specs.declared.header.Header.{Header}
 use Rattle.eleos_trace.specs.declared.header.Machine.{Machine}
 use Rattle.eleos_trace.specs.declared.why.Bad.{Bad}
-use Rattle.eleos_trace.specs.declared.why.Why.TheVariants.{Form, Range}
+use Rattle.eleos_trace.specs.declared.why.Why.TheVariants.{Form, Range, Enclave}
 use Rattle.eleos_trace.specs.declared.why.TraceRefused.{TraceRefused}
 use Rattle.eleos_trace.specs.Fields.{is, is_blank, is_newline, number, is_up_to}
-use Rattle.eleos_trace.specs.Reasons.{six, two, one, three, two_and_more, at_line, ◌>>=◌, Gives}
-use Rattle.eleos_trace.specs.Commands.{has_room, nothing_seen, seen_after, alloc_of, free_of, read_of, write_of, command_of, word_of}
-use Rattle.eleos_trace.specs.Header.{most_pages, most_frames, most_wear, title_line, enclave_line, spare_line, caller_line, wear_line, key_line, start_line, next_line, machine_of, header_of}
-use Rattle.eleos_trace.specs.Reading.{by_caller, ended, commands_of, plan_of, lines_of}
+use Rattle.eleos_trace.specs.Reasons.{six, four, two, one_and_more, at_line, ◌>>=◌, Gives}
+use Rattle.eleos_trace.specs.Commands.{nothing_seen, seen_after}
+use Rattle.eleos_trace.specs.Machines.{plan_of}
+use Rattle.eleos_trace.specs.Verbs.{word_of}
+use Rattle.eleos_trace.specs.Header.{most_pages, most_frames, most_wear, title_line, enclave_line, second_enclave_line, pool_line, spare_line, caller_line, second_caller_line, often_line, wear_line, key_line, start_line, next_line, machine_of, header_of}
+use Rattle.eleos_trace.specs.Reading.{by_caller, ended, commands_of, lines_of}
 use Rattle.eleos_trace.specs.Replays.{number_of, IsReplay}
-use Rattle.eleos_trace.proofs.Inversion.{bind_ok, guard_ok, cond_either, at_line_ok, ok_is, next_line_ok}
+use Rattle.eleos_trace.proofs.Inversion.{bind_ok, guard_ok, no_value, cond_either, at_line_ok, ok_is, next_line_ok}
 use Rattle.eleos_trace.proofs.Loop.{seen_after-commands}
+use Rattle.eleos_trace.proofs.Rooms.{word_ok}
 
 -- ---- the machine
 
@@ -53,18 +55,48 @@ enclave_ok words made e =
     subst (λ (p : EnclavePlan). (1 ≤ p.pages) × (p.pages ≤ 1024)) (ok_is here made range.1) (page_limits a.0.3 a.0.5 range.0)
 
 -- the frames of the enclave and of the pool are not too many
-spare_ok : (frames : ℕ) (words : List (List ℕ)) (spare : ℕ) → spare_line frames words ≡ Ok spare → frames + spare ≤ 512
-spare_ok frames words spare e =
+pool_ok : (frames : ℕ) (words : List (List ℕ)) (spare : ℕ) → pool_line frames words ≡ Ok spare → frames + spare ≤ 512
+pool_ok frames words spare e =
     let a = bind_ok (two words) _ spare e in
     let range = guard_ok _ _ Range spare (guard_ok _ _ Form spare a.2).1 in
     subst (λ (n : ℕ). frames + n ≤ 512) (ok_is (number a.0.1) spare range.1) (frame_limit frames a.0.1 range.0)
 
+-- one more enclave is no pool
+second_enclave_no : (frames : ℕ) (words : List (List ℕ)) (spare : ℕ) → second_enclave_line frames words ≡ Ok spare → ⊥
+second_enclave_no frames words spare e =
+    let a = bind_ok (six words) _ spare e in
+    no_value _ spare (guard_ok _ _ Range spare (guard_ok _ _ Form spare a.2).1).1
+
+spare_ok : (frames : ℕ) (words : List (List ℕ)) (spare : ℕ) → spare_line frames words ≡ Ok spare → frames + spare ≤ 512
+unfolding spare_line
+spare_ok frames words spare e =
+    let a = bind_ok (one_and_more words) _ spare e in
+    elim (cond_either _ (second_enclave_line frames words) _ (Ok spare) a.2) [
+      | inl second ↦ absurd (second_enclave_no frames words spare second)
+      | inr pool ↦ pool_ok frames words spare pool
+    ]
+
 -- the wear is in its limits
-wear_ok : (words : List (List ℕ)) (wear : ℕ) → wear_line words ≡ Ok wear → (1 ≤ wear) × (wear ≤ 2 ^ 63)
-wear_ok words wear e =
+often_ok : (words : List (List ℕ)) (wear : ℕ) → often_line words ≡ Ok wear → (1 ≤ wear) × (wear ≤ 2 ^ 63)
+often_ok words wear e =
     let a = bind_ok (two words) _ wear e in
     let range = guard_ok _ _ Range wear (guard_ok _ _ Form wear a.2).1 in
     subst (λ (n : ℕ). (1 ≤ n) × (n ≤ 2 ^ 63)) (ok_is (number a.0.1) wear range.1) (wear_limits a.0.1 range.0)
+
+-- one more caller is no wear
+second_caller_no : (words : List (List ℕ)) (wear : ℕ) → second_caller_line words ≡ Ok wear → ⊥
+second_caller_no words wear e =
+    let a = bind_ok (four words) _ wear e in
+    no_value _ wear (guard_ok _ _ Enclave wear (guard_ok _ _ Form wear a.2).1).1
+
+wear_ok : (words : List (List ℕ)) (wear : ℕ) → wear_line words ≡ Ok wear → (1 ≤ wear) × (wear ≤ 2 ^ 63)
+unfolding wear_line
+wear_ok words wear e =
+    let a = bind_ok (one_and_more words) _ wear e in
+    elim (cond_either _ (second_caller_line words) _ (Ok wear) a.2) [
+      | inl second ↦ absurd (second_caller_no words wear second)
+      | inr often ↦ often_ok words wear often
+    ]
 
 -- so are all numbers of the machine
 machine_ok : (lines : List (List ℕ)) (x : Machine × List (List ℕ)) → machine_of lines ≡ Ok x → IsGoodMachine x.0
@@ -99,43 +131,6 @@ good_plan m good = record {
 
 -- ---- the commands
 
--- there was room for one more command
-room : (seen : Seen) → has_room seen ≡ true → seen.commands < 100000
-room seen has = grind (arith, nat_tests)
-
--- and so there was before each command that is read
-alloc_ok : (seen : Seen) (args : List (List ℕ)) (word : Word) → alloc_of seen args ≡ Ok word → seen.commands < 100000
-alloc_ok seen args word e = let a = bind_ok (two args) _ word e in room seen (guard_ok _ _ _ word (guard_ok _ _ _ word a.2).1).0
-
-free_ok : (seen : Seen) (args : List (List ℕ)) (word : Word) → free_of seen args ≡ Ok word → seen.commands < 100000
-free_ok seen args word e = let a = bind_ok (one args) _ word e in room seen (guard_ok _ _ _ word (guard_ok _ _ _ word a.2).1).0
-
-read_ok : (seen : Seen) (args : List (List ℕ)) (word : Word) → read_of seen args ≡ Ok word → seen.commands < 100000
-read_ok seen args word e = let a = bind_ok (three args) _ word e in room seen (guard_ok _ _ _ word (guard_ok _ _ _ word a.2).1).0
-
-write_ok : (wear : ℕ) (seen : Seen) (args : List (List ℕ)) (word : Word) → write_of wear seen args ≡ Ok word → seen.commands < 100000
-write_ok wear seen args word e = let a = bind_ok (three args) _ word e in room seen (guard_ok _ _ _ word (guard_ok _ _ _ word a.2).1).0
-
--- whatever its verb
-command_ok : (wear : ℕ) (seen : Seen) (verb : List ℕ) (args : List (List ℕ)) (word : Word) → command_of wear seen verb args ≡ Ok word → seen.commands < 100000
-command_ok wear seen verb args word e =
-    elim (cond_either (is (codes "alloc") verb) _ _ _ e) [
-      | inl alloc ↦ alloc_ok seen args word alloc
-      | inr others ↦ elim (cond_either (is (codes "free") verb) _ _ _ others) [
-        | inl free ↦ free_ok seen args word free
-        | inr others ↦ elim (cond_either (is (codes "read") verb) _ _ _ others) [
-          | inl read ↦ read_ok seen args word read
-          | inr others ↦ write_ok wear seen args word (guard_ok (is (codes "write") verb) _ _ word others).1
-        ]
-      ]
-    ]
-
--- and its actor
-word_ok : (wear : ℕ) (seen : Seen) (words : List (List ℕ)) (word : Word) → word_of wear seen words ≡ Ok word → seen.commands < 100000
-word_ok wear seen words word e =
-    let a = bind_ok (two_and_more words) _ word e in
-    command_ok wear seen a.0.1 a.0.2 word (guard_ok _ _ _ word a.2).1
-
 -- the commands that come after what was seen are few, and the one caller's
 record AreFew (seen : Seen) (lines : List Line) : Type 0 where
   few : seen.commands + length lines ≤ 100000
@@ -149,27 +144,27 @@ ended_ok line ([] ∷ text ∷ texts) lines e = absurd cc
 ended_ok line ((c ∷ cs) ∷ texts) lines e = absurd cc
 
 -- one command, and those that others has after it
-one_more : (wear line : ℕ) (seen : Seen) (words : List (List ℕ)) (others : Seen → Result (List Line) Bad)
+one_more : (machine : Machine) (line : ℕ) (seen : Seen) (words : List (List ℕ)) (others : Seen → Result (List Line) Bad)
     → ((after : Seen) (lines : List Line) → others after ≡ Ok lines → after.commands ≤ 100000 → AreFew after lines)
-    → (lines : List Line) → (at_line line (word_of wear seen words) >>= λ word. others (seen_after seen word) >>= λ more. Ok (by_caller word ∷ more)) ≡ Ok lines → AreFew seen lines
-one_more wear line seen words others are_few lines e =
-    let a = bind_ok (at_line line (word_of wear seen words)) (λ word. others (seen_after seen word) >>= λ more. Ok (by_caller word ∷ more)) lines e in
+    → (lines : List Line) → (at_line line (word_of machine seen words) >>= λ word. others (seen_after seen word) >>= λ more. Ok (by_caller word ∷ more)) ≡ Ok lines → AreFew seen lines
+one_more machine line seen words others are_few lines e =
+    let a = bind_ok (at_line line (word_of machine seen words)) (λ word. others (seen_after seen word) >>= λ more. Ok (by_caller word ∷ more)) lines e in
     let b = bind_ok (others (seen_after seen a.0)) (λ more. Ok (by_caller a.0 ∷ more)) lines a.2 in
-    let small = word_ok wear seen words a.0 (at_line_ok line (word_of wear seen words) a.0 a.1) in
+    let small = word_ok machine seen words a.0 (at_line_ok line (word_of machine seen words) a.0 a.1) in
     let count = seen_after-commands seen a.0 in
     let rest = are_few (seen_after seen a.0) b.0 b.1 (omega arith) in
     let few : seen.commands + length (by_caller a.0 ∷ b.0) ≤ 100000 = omega (arith, rest.few) in
     subst (λ (ls : List Line). AreFew seen ls) (ok_is (by_caller a.0 ∷ b.0) lines b.2) (record { few = few; callers = (refl, rest.callers) })
 
 -- all commands behind a header
-commands_ok : (wear line : ℕ) (seen : Seen) (texts : List (List ℕ)) (lines : List Line) → commands_of wear line seen texts ≡ Ok lines → seen.commands ≤ 100000 → AreFew seen lines
+commands_ok : (machine : Machine) (line : ℕ) (seen : Seen) (texts : List (List ℕ)) (lines : List Line) → commands_of machine line seen texts ≡ Ok lines → seen.commands ≤ 100000 → AreFew seen lines
 unfolding commands_of
-commands_ok wear line seen [] lines e small = absurd cc
-commands_ok wear line seen (text ∷ []) lines e small = absurd cc
-commands_ok wear line seen (text ∷ next ∷ texts) lines e small =
+commands_ok machine line seen [] lines e small = absurd cc
+commands_ok machine line seen (text ∷ []) lines e small = absurd cc
+commands_ok machine line seen (text ∷ next ∷ texts) lines e small =
     elim (cond_either (is (codes "end") text) _ _ _ e) [
       | inl end ↦ subst (λ (ls : List Line). AreFew seen ls) (ended_ok (line + 1) (next ∷ texts) lines end) (record { few = omega (arith, small); callers = tt })
-      | inr more ↦ one_more wear line seen (slice_split is_blank text) (λ after. commands_of wear (line + 1) after (next ∷ texts)) (λ after others. commands_ok wear (line + 1) after (next ∷ texts) others) lines more
+      | inr more ↦ one_more machine line seen (slice_split is_blank text) (λ after. commands_of machine (line + 1) after (next ∷ texts)) (λ after others. commands_ok machine (line + 1) after (next ∷ texts) others) lines more
     ]
 
 -- ---- the trace
@@ -183,13 +178,13 @@ lines_ok : (texts : List (List ℕ)) (trace : Trace) → lines_of texts ≡ Ok t
 unfolding lines_of header_of
 lines_ok texts trace e =
     let header = bind_ok (header_of texts) _ trace e in
-    let lines = bind_ok (commands_of header.0.0.machine.wear 8 nothing_seen header.0.1) _ trace header.2 in
+    let lines = bind_ok (commands_of header.0.0.machine 8 nothing_seen header.0.1) _ trace header.2 in
     let machine = bind_ok (machine_of texts) _ header.0 header.1 in
     let key = bind_ok (next_line 6 key_line machine.0.1) _ header.0 machine.2 in
-    let start = bind_ok (next_line 7 start_line key.0.1) _ header.0 key.2 in
+    let start = bind_ok (next_line 7 (start_line machine.0.0.enclave.pages) key.0.1) _ header.0 key.2 in
     let here : Header × List (List ℕ) = (record { machine = machine.0.0; key = key.0.0 }, start.0.1) in
     let good = subst (λ (h : Header × List (List ℕ)). IsGoodMachine h.0.machine) (ok_is here header.0 start.2) (machine_ok texts machine.0 machine.1) in
-    let commands = commands_ok header.0.0.machine.wear 8 nothing_seen header.0.1 lines.0 lines.1 (omega arith) in
+    let commands = commands_ok header.0.0.machine 8 nothing_seen header.0.1 lines.0 lines.1 (omega arith) in
     let found : Trace = record { plan = plan_of header.0.0.machine; key = header.0.0.key; lines = lines.0 } in
     subst IsReplay (ok_is found trace lines.2) (record {
       good = good_plan header.0.0.machine good;

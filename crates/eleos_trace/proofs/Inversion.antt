@@ -15,6 +15,10 @@ pub guard_ok : {A : Type 0} (b : Bool) (r : Result A Why) (why : Why) (y : A) �
 guard_ok true r why y e = (refl, e)
 guard_ok false r why y e = absurd cc
 
+-- a reason is no value
+pub no_value : {A : Type 0} (why : Why) (y : A) → ◌≡◌ {A = Result A Why} (Err why) (Ok y) → ⊥
+no_value why y e = cc
+
 -- one of two
 pub cond_either : {A : Type 0} (b : Bool) (r s y : A) → cond b r s ≡ y → (r ≡ y) ⊎ (s ≡ y)
 cond_either true r s y e = inl e

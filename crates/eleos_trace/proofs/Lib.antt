@@ -4,5 +4,6 @@ mod Keys
 pub mod Loop
 mod Numerals
 mod Others
+mod Rooms
 pub mod Steps
 pub mod Texts

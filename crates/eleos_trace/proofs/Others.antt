@@ -1,7 +1,7 @@
 -- Lists that have another number of items than the one asked for are of no form.
 use Rattle.std.proofs.Common.{◌≡◌, ◌<◌, List, [], ◌∷◌, length, Err, refl, arith}
 use Rattle.eleos_trace.specs.declared.why.Why.TheVariants.{Form}
-use Rattle.eleos_trace.specs.Reasons.{one, two, three, four, five, six, one_and_more, two_and_more}
+use Rattle.eleos_trace.specs.Reasons.{one, two, three, four, five, six, eight, one_and_more, two_and_more}
 
 module _ {A : Type 0} where
   pub one-other : (items : List A) → (length items ≡ 1 → ⊥) → one items ≡ Err Form
@@ -54,6 +54,19 @@ module _ {A : Type 0} where
   six-other (a ∷ b ∷ c ∷ d ∷ e ∷ []) other = refl
   six-other (a ∷ b ∷ c ∷ d ∷ e ∷ f ∷ []) other = absurd (other refl)
   six-other (a ∷ b ∷ c ∷ d ∷ e ∷ f ∷ g ∷ _) other = refl
+
+  pub eight-other : (items : List A) → (length items ≡ 8 → ⊥) → eight items ≡ Err Form
+  unfolding eight
+  eight-other [] other = refl
+  eight-other (a ∷ []) other = refl
+  eight-other (a ∷ b ∷ []) other = refl
+  eight-other (a ∷ b ∷ c ∷ []) other = refl
+  eight-other (a ∷ b ∷ c ∷ d ∷ []) other = refl
+  eight-other (a ∷ b ∷ c ∷ d ∷ e ∷ []) other = refl
+  eight-other (a ∷ b ∷ c ∷ d ∷ e ∷ f ∷ []) other = refl
+  eight-other (a ∷ b ∷ c ∷ d ∷ e ∷ f ∷ g ∷ []) other = refl
+  eight-other (a ∷ b ∷ c ∷ d ∷ e ∷ f ∷ g ∷ h ∷ []) other = absurd (other refl)
+  eight-other (a ∷ b ∷ c ∷ d ∷ e ∷ f ∷ g ∷ h ∷ i ∷ _) other = refl
 
   pub one_and_more-other : (items : List A) → length items < 1 → one_and_more items ≡ Err Form
   unfolding one_and_more

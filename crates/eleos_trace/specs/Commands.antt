@@ -1,13 +1,14 @@
--- Commands by their words, with the reasons for which a line is refused.
-use Rattle.std.specs.Prelude.{ℕ, ◌+◌, List, [], ◌∷◌, length, Bool, not, ◌&&◌, nat_le, nat_lt, Result, Err, codes, if◌then◌else◌}
+-- Commands of a caller by their words, with the reasons for which a line is refused.
+use Rattle.std.specs.Prelude.{ℕ, ◌+◌, List, [], ◌∷◌, length, Bool, not, ◌&&◌, nat_le, nat_lt, Result}
 use Rattle.std.specs.FinSet as set
 use Rattle.eleos_trace.specs.declared.word.Word.{Word}
 use Rattle.eleos_trace.specs.declared.word.Word.TheVariants.{Alloc, Free, Read, Write}
 use Rattle.eleos_trace.specs.declared.why.Why.{Why}
-use Rattle.eleos_trace.specs.declared.why.Why.TheVariants.{Form, Many, Range, Name, Later}
+use Rattle.eleos_trace.specs.declared.why.Why.TheVariants.{Form, Many, Actor, Range, Name, Later}
 use Rattle.eleos_trace.specs.declared.seen.Seen.{Seen}
-use Rattle.eleos_trace.specs.Fields.{is, is_numeral, number, is_up_to, most_u32, is_name, is_hex, bytes_in}
-use Rattle.eleos_trace.specs.Reasons.{unless, with_one, with_two, with_three, with_two_and_more}
+use Rattle.eleos_trace.specs.Fields.{is_numeral, number, is_up_to, most_u32, is_name, is_hex, bytes_in}
+use Rattle.eleos_trace.specs.Reasons.{unless, with_one, with_two, with_three}
+use Rattle.eleos_trace.specs.Machines.{is_caller}
 
 -- commands of a trace
 abbrev pub most_commands : ℕ
@@ -37,50 +38,41 @@ seen_after seen (Read name offset len) = record { names = seen.names; commands =
 seen_after seen (Write name offset bytes) = record { names = seen.names; commands = seen.commands + 1; writes = seen.writes + 1 }
 
 -- `alloc NAME N` binds a new name
-abbrev pub alloc_of : Seen → List (List ℕ) → Result Word Why
-alloc_of seen = with_two (λ name bytes. unless (
+abbrev pub alloc_of : List ℕ → Seen → List (List ℕ) → Result Word Why
+alloc_of actor seen = with_two (λ name bytes. unless (
     (is_name name && is_numeral bytes, Form)
     ∷ (has_room seen, Many)
+    ∷ (is_caller actor, Actor)
     ∷ (is_up_to most_u32 bytes, Range)
     ∷ (not (is_bound seen name), Name) ∷ [])
     (Alloc name (number bytes)))
 
 -- `free NAME`
-abbrev pub free_of : Seen → List (List ℕ) → Result Word Why
-free_of seen = with_one (λ name. unless (
+abbrev pub free_of : List ℕ → Seen → List (List ℕ) → Result Word Why
+free_of actor seen = with_one (λ name. unless (
     (is_name name, Form)
     ∷ (has_room seen, Many)
+    ∷ (is_caller actor, Actor)
     ∷ (is_bound seen name, Name) ∷ [])
     (Free name))
 
 -- `read NAME OFFSET N`
-abbrev pub read_of : Seen → List (List ℕ) → Result Word Why
-read_of seen = with_three (λ name offset len. unless (
+abbrev pub read_of : List ℕ → Seen → List (List ℕ) → Result Word Why
+read_of actor seen = with_three (λ name offset len. unless (
     (is_name name && is_numeral offset && is_numeral len, Form)
     ∷ (has_room seen, Many)
+    ∷ (is_caller actor, Actor)
     ∷ (is_up_to most_u32 offset && is_up_to most_u32 len, Range)
     ∷ (is_bound seen name, Name) ∷ [])
     (Read name (number offset) (number len)))
 
 -- `write NAME OFFSET HEX`, where a sub-page may be sealed so often; more writes are not read yet
-abbrev pub write_of : ℕ → Seen → List (List ℕ) → Result Word Why
-write_of wear seen = with_three (λ name offset hex. unless (
+abbrev pub write_of : ℕ → List ℕ → Seen → List (List ℕ) → Result Word Why
+write_of wear actor seen = with_three (λ name offset hex. unless (
     (is_name name && is_numeral offset && is_hex hex, Form)
     ∷ (has_room seen, Many)
+    ∷ (is_caller actor, Actor)
     ∷ (is_up_to most_u32 offset && nat_le (length (bytes_in hex)) most_bytes, Range)
     ∷ (is_bound seen name, Name)
     ∷ (nat_lt seen.writes wear, Later) ∷ [])
     (Write name (number offset) (bytes_in hex)))
-
--- a command by its verb
-abbrev pub command_of : ℕ → Seen → List ℕ → List (List ℕ) → Result Word Why
-command_of wear seen verb args =
-    if is (codes "alloc") verb then alloc_of seen args
-    else if is (codes "free") verb then free_of seen args
-    else if is (codes "read") verb then read_of seen args
-    else if is (codes "write") verb then write_of wear seen args
-    else Err Form
-
--- a command of the one caller
-abbrev pub word_of : ℕ → Seen → List (List ℕ) → Result Word Why
-word_of wear seen = with_two_and_more (λ actor verb args. if is (codes "c1") actor then command_of wear seen verb args else Err Form)

@@ -1,5 +1,5 @@
 -- The fields of a line: numbers, names and bytes in hex.
-use Rattle.std.specs.Prelude.{ℕ, List, [], length, Bool, not, ◌==◌, ◌&&◌, ◌||◌, nat_le, Option, Some, None, is_some, unwrap_or, Result, Ok, Err, codes, slice_index, if◌then◌else◌}
+use Rattle.std.specs.Prelude.{ℕ, List, [], length, Bool, not, ◌==◌, ◌&&◌, ◌||◌, nat_le, nat_lt, Option, Some, None, is_some, unwrap_or, Result, Ok, Err, codes, slice_index, if◌then◌else◌}
 use Rattle.std.specs.List.{list_all}
 use Rattle.std.specs.Char.{is_ascii_digit, is_ascii_lowercase}
 use Rattle.std.specs.Str.{bytes_eq}
@@ -30,6 +30,10 @@ number text = digits_value 10 text
 -- it says a number of at most so much
 abbrev pub is_up_to : ℕ → List ℕ → Bool
 is_up_to most text = nat_le (number text) most
+
+-- it says a number below this one
+abbrev pub is_below : ℕ → List ℕ → Bool
+is_below limit text = nat_lt (number text) limit
 
 -- a number, where it is at most so much
 abbrev pub up_to : ℕ → ℕ → Option ℕ

@@ -1,14 +1,16 @@
 -- The lines before the first command, one reader a line.
-use Rattle.std.specs.Prelude.{ℕ, ◌+◌, ◌^◌, List, [], ◌∷◌, length, Bool, ◌&&◌, ◌||◌, ◌==◌, nat_le, Result, Ok, Err, codes}
+use Rattle.std.specs.Prelude.{ℕ, ◌+◌, ◌^◌, List, [], ◌∷◌, length, Bool, ◌&&◌, ◌||◌, ◌==◌, ◌*◌, nat_le, Result, Ok, Err, codes, if◌then◌else◌}
 use Rattle.std.specs.List.{slice_split}
 use Rattle.eleos_base.specs.declared.plan.EnclavePlan.{EnclavePlan}
 use Rattle.eleos_trace.specs.declared.why.Why.{Why}
-use Rattle.eleos_trace.specs.declared.why.Why.TheVariants.{Cut, Form, Range}
+use Rattle.eleos_trace.specs.declared.why.Why.TheVariants.{Cut, Form, Range, Enclave, BadSize, NoSpace, Owner, Later}
 use Rattle.eleos_trace.specs.declared.why.Bad.{Bad}
 use Rattle.eleos_trace.specs.declared.header.Header.{Header}
 use Rattle.eleos_trace.specs.declared.header.Machine.{Machine}
-use Rattle.eleos_trace.specs.Fields.{is, is_blank, is_numeral, number, is_up_to, is_hex, bytes_in}
-use Rattle.eleos_trace.specs.Reasons.{unless, with_one, with_two, with_three, with_four, with_six, at_line, ◌>>=◌}
+use Rattle.eleos_trace.specs.Fields.{is, is_blank, is_numeral, number, is_up_to, is_name, is_hex, bytes_in}
+use Rattle.eleos_trace.specs.Reasons.{unless, refusal, with_one, with_two, with_three, with_four, with_six, with_eight, with_one_and_more, at_line, ◌>>=◌}
+use Rattle.eleos_trace.specs.Machines.{is_enclave}
+use Rattle.eleos_base.specs.Plans.{page_bytes}
 
 -- pages of an enclave
 abbrev pub most_pages : ℕ
@@ -21,6 +23,10 @@ most_frames = 512
 -- how often a sub-page may be sealed
 abbrev pub most_wear : ℕ
 most_wear = 2 ^ 63
+
+-- bytes of a block
+abbrev pub most_block : ℕ
+most_block = 65536
 
 -- bytes of a key
 abbrev pub is_key_length : ℕ → Bool
@@ -39,25 +45,52 @@ enclave_line = with_six (λ first which second pages third frames. unless (
     ∷ (nat_le 1 (number pages) && is_up_to most_pages pages && is_up_to most_frames frames, Range) ∷ [])
     (record { pages = number pages; frames = number frames }))
 
+-- `enclave 1 pages P frames F`, beside so many frames of the first
+abbrev pub second_enclave_line : ℕ → List (List ℕ) → Result ℕ Why
+second_enclave_line taken = with_six (λ first which second pages third frames. refusal (
+    (is (codes "enclave") first && is (codes "1") which && is (codes "pages") second && is_numeral pages && is (codes "frames") third && is_numeral frames, Form)
+    ∷ (nat_le 1 (number pages) && is_up_to most_pages pages && nat_le (taken + number frames) most_frames, Range) ∷ [])
+    Later)
+
 -- `spare S`, beside so many frames of the enclave
-abbrev pub spare_line : ℕ → List (List ℕ) → Result ℕ Why
-spare_line frames = with_two (λ first spare. unless (
+abbrev pub pool_line : ℕ → List (List ℕ) → Result ℕ Why
+pool_line frames = with_two (λ first spare. unless (
     (is (codes "spare") first && is_numeral spare, Form)
     ∷ (nat_le (frames + number spare) most_frames, Range) ∷ [])
     (number spare))
 
--- `caller 1 enclave 0`
+-- the pool, or one more enclave before it
+unfoldable pub spare_line : ℕ → List (List ℕ) → Result ℕ Why
+spare_line frames words = with_one_and_more (λ first more.
+    if is (codes "enclave") first then second_enclave_line frames words else pool_line frames words)
+    words
+
+-- `caller 1 enclave E`
 abbrev pub caller_line : List (List ℕ) → Result (Unit {0}) Why
 caller_line = with_four (λ first which second enclave. unless (
-    (is (codes "caller") first && is (codes "1") which && is (codes "enclave") second && is (codes "0") enclave, Form) ∷ [])
+    (is (codes "caller") first && is (codes "1") which && is (codes "enclave") second && is_numeral enclave, Form)
+    ∷ (is_enclave enclave, Enclave) ∷ [])
     tt)
 
+-- `caller 2 enclave E`
+abbrev pub second_caller_line : List (List ℕ) → Result ℕ Why
+second_caller_line = with_four (λ first which second enclave. refusal (
+    (is (codes "caller") first && is (codes "2") which && is (codes "enclave") second && is_numeral enclave, Form)
+    ∷ (is_enclave enclave, Enclave) ∷ [])
+    Later)
+
 -- `wear W`
-abbrev pub wear_line : List (List ℕ) → Result ℕ Why
-wear_line = with_two (λ first wear. unless (
+abbrev pub often_line : List (List ℕ) → Result ℕ Why
+often_line = with_two (λ first wear. unless (
     (is (codes "wear") first && is_numeral wear, Form)
     ∷ (nat_le 1 (number wear) && is_up_to most_wear wear, Range) ∷ [])
     (number wear))
+
+-- the wear, or one more caller before it
+unfoldable pub wear_line : List (List ℕ) → Result ℕ Why
+wear_line words = with_one_and_more (λ first more.
+    if is (codes "caller") first then second_caller_line words else often_line words)
+    words
 
 -- `key HEX`
 abbrev pub key_line : List (List ℕ) → Result (List ℕ) Why
@@ -66,9 +99,28 @@ key_line = with_two (λ first key. unless (
     ∷ (is_key_length (length (bytes_in key)), Range) ∷ [])
     (bytes_in key))
 
+-- `block NAME enclave E bytes N owner C`, the first of them, so that the whole enclave is free
+abbrev pub block_line : ℕ → List (List ℕ) → Result (Unit {0}) Why
+block_line pages = with_eight (λ first name second enclave third bytes fourth owner. refusal ((
+  is (codes "block") first && is_name name && is (codes "enclave") second && is_numeral enclave
+      && is (codes "bytes") third && is_numeral bytes && is (codes "owner") fourth && is_numeral owner,
+  Form,
+)
+    ∷ (is_enclave enclave, Enclave)
+    ∷ (nat_le 1 (number bytes) && is_up_to most_block bytes, BadSize)
+    ∷ (is_up_to (page_bytes * pages) bytes, NoSpace)
+    ∷ (is (codes "0") owner || is (codes "1") owner, Owner) ∷ [])
+    Later)
+
 -- `start`
-abbrev pub start_line : List (List ℕ) → Result (Unit {0}) Why
-start_line = with_one (λ first. unless ((is (codes "start") first, Form) ∷ []) tt)
+abbrev pub begin_line : List (List ℕ) → Result (Unit {0}) Why
+begin_line = with_one (λ first. unless ((is (codes "start") first, Form) ∷ []) tt)
+
+-- the start, or a block before it, in an enclave of so many pages
+unfoldable pub start_line : ℕ → List (List ℕ) → Result (Unit {0}) Why
+start_line pages words = with_one_and_more (λ first more.
+    if is (codes "block") first then block_line pages words else begin_line words)
+    words
 
 -- the words of the first of these lines, which has this number and which a newline ends; and the lines behind it
 abbrev pub next_words : ℕ → List (List ℕ) → Result (List (List ℕ) × List (List ℕ)) Bad
@@ -97,7 +149,7 @@ unfoldable pub header_of : List (List ℕ) → Result (Header × List (List ℕ)
 header_of lines = do
   machine ← machine_of lines
   key ← next_line 6 key_line machine.1
-  start ← next_line 7 start_line key.1
+  start ← next_line 7 (start_line machine.0.enclave.pages) key.1
   Ok (record { machine = machine.0; key = key.0 }, start.1)
 
 -- lines of a header

@@ -1,7 +1,11 @@
 pub mod Commands
 pub mod Fields
 pub mod Header
+pub mod Machines
+pub mod Planned
 pub mod Reading
 pub mod Reasons
 pub mod Replays
+pub mod RunForms
 pub mod Spelling
+pub mod Verbs

@@ -1,7 +1,6 @@
 -- The meaning of a text: its trace, or its first bad line with the reason.
 use Rattle.std.specs.Prelude.{ℕ, ◌+◌, List, [], ◌∷◌, length, nat_le, Result, Ok, Err, codes, if◌then◌else◌}
 use Rattle.std.specs.List.{slice_split}
-use Rattle.eleos_base.specs.declared.plan.Plan.{Plan}
 use Rattle.eleos_trace.specs.declared.word.Word.{Word}
 use Rattle.eleos_trace.specs.declared.word.Actor.TheVariants.{Caller}
 use Rattle.eleos_trace.specs.declared.trace.Line.{Line}
@@ -12,7 +11,9 @@ use Rattle.eleos_trace.specs.declared.seen.Seen.{Seen}
 use Rattle.eleos_trace.specs.declared.header.Machine.{Machine}
 use Rattle.eleos_trace.specs.Fields.{is, is_blank, is_newline}
 use Rattle.eleos_trace.specs.Reasons.{at_line, ◌>>=◌}
-use Rattle.eleos_trace.specs.Commands.{nothing_seen, seen_after, word_of}
+use Rattle.eleos_trace.specs.Machines.{plan_of}
+use Rattle.eleos_trace.specs.Commands.{nothing_seen, seen_after}
+use Rattle.eleos_trace.specs.Verbs.{word_of}
 use Rattle.eleos_trace.specs.Header.{header_of, header_lines}
 
 -- bytes of a text
@@ -29,23 +30,19 @@ ended line ([] ∷ []) = Ok []
 ended line texts = Err (record { line = line; why = After })
 
 -- the commands of these lines, the first of which has this number, after what was seen before
-unfoldable pub commands_of : ℕ → ℕ → Seen → List (List ℕ) → Result (List Line) Bad
-commands_of wear line seen [] = Err (record { line = line; why = Cut })
-commands_of wear line seen (text ∷ []) = Err (record { line = line; why = Cut })
-commands_of wear line seen (text ∷ next ∷ texts) = if is (codes "end") text then ended (line + 1) (next ∷ texts) else do
-  word ← at_line line (word_of wear seen (slice_split is_blank text))
-  lines ← commands_of wear (line + 1) (seen_after seen word) (next ∷ texts)
+unfoldable pub commands_of : Machine → ℕ → Seen → List (List ℕ) → Result (List Line) Bad
+commands_of machine line seen [] = Err (record { line = line; why = Cut })
+commands_of machine line seen (text ∷ []) = Err (record { line = line; why = Cut })
+commands_of machine line seen (text ∷ next ∷ texts) = if is (codes "end") text then ended (line + 1) (next ∷ texts) else do
+  word ← at_line line (word_of machine seen (slice_split is_blank text))
+  lines ← commands_of machine (line + 1) (seen_after seen word) (next ∷ texts)
   Ok (by_caller word ∷ lines)
-
--- a machine with one enclave and one caller
-abbrev pub plan_of : Machine → Plan
-plan_of machine = record { enclaves = machine.enclave ∷ []; spare = machine.spare; callers = 0 ∷ []; wear = machine.wear; blocks = [] }
 
 -- the trace of these lines
 unfoldable pub lines_of : List (List ℕ) → Result Trace Bad
 lines_of texts = do
   header ← header_of texts
-  lines ← commands_of header.0.machine.wear (header_lines + 1) nothing_seen header.1
+  lines ← commands_of header.0.machine (header_lines + 1) nothing_seen header.1
   Ok (record { plan = plan_of header.0.machine; key = header.0.key; lines = lines })
 
 -- the trace of a text

@@ -13,6 +13,11 @@ abbrev pub unless : {A : Type 0} → List (Bool × Why) → A → Result A Why
 unless [] value = Ok value
 unless (test ∷ tests) value = if test.0 then unless tests value else Err test.1
 
+-- no value: the reason of the first of these tests that fails, or else this one
+abbrev pub refusal : {A : Type 0} → List (Bool × Why) → Why → Result A Why
+refusal [] why = Err why
+refusal (test ∷ tests) why = if test.0 then refusal tests why else Err test.1
+
 -- the next step, where the one before gave a value
 infixl 10 ◌>>=◌
 abbrev pub ◌>>=◌ : {A B E : Type 0} → Result A E → (A → Result B E) → Result B E
@@ -51,6 +56,11 @@ module _ {A : Type 0} where
   six (a ∷ b ∷ c ∷ d ∷ e ∷ f ∷ []) = Ok (a, b, c, d, e, f)
   six _ = Err Form
 
+  -- of eight
+  unfoldable pub eight : List A → Result (A × A × A × A × A × A × A × A) Why
+  eight (a ∷ b ∷ c ∷ d ∷ e ∷ f ∷ g ∷ h ∷ []) = Ok (a, b, c, d, e, f, g, h)
+  eight _ = Err Form
+
   -- the first item of a list, and the others
   unfoldable pub one_and_more : List A → Result (A × List A) Why
   one_and_more (a ∷ more) = Ok (a, more)
@@ -86,6 +96,10 @@ module _ {A R : Type 0} where
   -- of six
   abbrev pub with_six : (A → A → A → A → A → A → Result R Why) → List A → Result R Why
   with_six read items = six items >>= λ x. read x.0 x.1 x.2 x.3 x.4 x.5
+
+  -- of eight
+  abbrev pub with_eight : (A → A → A → A → A → A → A → A → Result R Why) → List A → Result R Why
+  with_eight read items = eight items >>= λ x. read x.0 x.1 x.2 x.3 x.4 x.5 x.6 x.7
 
   -- of the first and the others
   abbrev pub with_one_and_more : (A → List A → Result R Why) → List A → Result R Why

@@ -1,10 +1,10 @@
-// Commands from the words of their lines.
+// Commands of a caller from the words of their lines.
 ghost use Rattle.std.specs.Prelude.{◌≡◌, List, ℕ, map};
-ghost use Rattle.eleos_trace.specs.Commands.{word_of, command_of};
 ghost use Rattle.eleos_trace.specs.Commands.{alloc_of, free_of, read_of, write_of};
+ghost use Rattle.eleos_trace.specs.Machines.{is_caller};
 ghost use Rattle.eleos_trace.specs.Reasons.{Reads};
 
-use crate::counts::{one, three, two, two_and_more};
+use crate::counts::{one, three, two};
 use crate::fields::{hex_bytes, is_name, is_numeral, number_u32};
 use crate::seen::Seen;
 use crate::why::{LineRefused, refused};
@@ -15,48 +15,21 @@ use std::alloc::Global;
 /// Bytes of a write.
 const MOST_BYTES: usize = 2048;
 
-/// A command of the one caller; a sub-page may be sealed `wear` times.
-pub(crate) fn word_of(
-    alloc: Global,
-    wear: u64,
-    seen: &Seen,
-    words: &[&[u8]],
-) -> Result<Word, LineRefused>
-    ensures { Reads (λ word. word) result
-        (word_of wear seen.now (map (λ word. word.now) words.now)) }
+/// The one caller; no other is declared.
+pub(crate) fn is_caller(actor: &[u8]) -> bool
+    ensures { result ≡ is_caller actor.now }
 {
-    let (actor, verb, args) = two_and_more(words)?;
-    if actor != b"c1".as_slice() {
-        return refused(Why::Form);
-    }
-    command_of(alloc, wear, seen, verb, args)
+    actor == b"c1".as_slice()
 }
 
-fn command_of(
+pub(crate) fn alloc_of(
     alloc: Global,
-    wear: u64,
+    actor: &[u8],
     seen: &Seen,
-    verb: &[u8],
     args: &[&[u8]],
 ) -> Result<Word, LineRefused>
     ensures { Reads (λ word. word) result
-        (command_of wear seen.now verb.now (map (λ arg. arg.now) args.now)) }
-{
-    if verb == b"alloc".as_slice() {
-        alloc_of(alloc, seen, args)
-    } else if verb == b"free".as_slice() {
-        free_of(alloc, seen, args)
-    } else if verb == b"read".as_slice() {
-        read_of(alloc, seen, args)
-    } else if verb == b"write".as_slice() {
-        write_of(alloc, wear, seen, args)
-    } else {
-        refused(Why::Form)
-    }
-}
-
-fn alloc_of(alloc: Global, seen: &Seen, args: &[&[u8]]) -> Result<Word, LineRefused>
-    ensures { Reads (λ word. word) result (alloc_of seen.now (map (λ arg. arg.now) args.now)) }
+        (alloc_of actor.now seen.now (map (λ arg. arg.now) args.now)) }
 {
     let (name, bytes) = two(args)?;
     if !is_name(name) || !is_numeral(bytes) {
@@ -64,6 +37,9 @@ fn alloc_of(alloc: Global, seen: &Seen, args: &[&[u8]]) -> Result<Word, LineRefu
     }
     if !seen.has_room() {
         return refused(Why::Many);
+    }
+    if !is_caller(actor) {
+        return refused(Why::Actor);
     }
     let Some(bytes) = number_u32(bytes) else {
         return refused(Why::Range);
@@ -75,8 +51,14 @@ fn alloc_of(alloc: Global, seen: &Seen, args: &[&[u8]]) -> Result<Word, LineRefu
     Ok(Word::Alloc { name, bytes })
 }
 
-fn free_of(alloc: Global, seen: &Seen, args: &[&[u8]]) -> Result<Word, LineRefused>
-    ensures { Reads (λ word. word) result (free_of seen.now (map (λ arg. arg.now) args.now)) }
+pub(crate) fn free_of(
+    alloc: Global,
+    actor: &[u8],
+    seen: &Seen,
+    args: &[&[u8]],
+) -> Result<Word, LineRefused>
+    ensures { Reads (λ word. word) result
+        (free_of actor.now seen.now (map (λ arg. arg.now) args.now)) }
 {
     let name = one(args)?;
     if !is_name(name) {
@@ -85,6 +67,9 @@ fn free_of(alloc: Global, seen: &Seen, args: &[&[u8]]) -> Result<Word, LineRefus
     if !seen.has_room() {
         return refused(Why::Many);
     }
+    if !is_caller(actor) {
+        return refused(Why::Actor);
+    }
     if !seen.is_bound(name) {
         return refused(Why::Name);
     }
@@ -92,8 +77,14 @@ fn free_of(alloc: Global, seen: &Seen, args: &[&[u8]]) -> Result<Word, LineRefus
     Ok(Word::Free { name })
 }
 
-fn read_of(alloc: Global, seen: &Seen, args: &[&[u8]]) -> Result<Word, LineRefused>
-    ensures { Reads (λ word. word) result (read_of seen.now (map (λ arg. arg.now) args.now)) }
+pub(crate) fn read_of(
+    alloc: Global,
+    actor: &[u8],
+    seen: &Seen,
+    args: &[&[u8]],
+) -> Result<Word, LineRefused>
+    ensures { Reads (λ word. word) result
+        (read_of actor.now seen.now (map (λ arg. arg.now) args.now)) }
 {
     let (name, offset, len) = three(args)?;
     if !is_name(name) || !is_numeral(offset) || !is_numeral(len) {
@@ -101,6 +92,9 @@ fn read_of(alloc: Global, seen: &Seen, args: &[&[u8]]) -> Result<Word, LineRefus
     }
     if !seen.has_room() {
         return refused(Why::Many);
+    }
+    if !is_caller(actor) {
+        return refused(Why::Actor);
     }
     let (Some(offset), Some(len)) = (number_u32(offset), number_u32(len)) else {
         return refused(Why::Range);
@@ -112,8 +106,16 @@ fn read_of(alloc: Global, seen: &Seen, args: &[&[u8]]) -> Result<Word, LineRefus
     Ok(Word::Read { name, offset, len })
 }
 
-fn write_of(alloc: Global, wear: u64, seen: &Seen, args: &[&[u8]]) -> Result<Word, LineRefused>
-    ensures { Reads (λ word. word) result (write_of wear seen.now (map (λ arg. arg.now) args.now)) }
+/// A write, where a sub-page may be sealed `wear` times.
+pub(crate) fn write_of(
+    alloc: Global,
+    wear: u64,
+    actor: &[u8],
+    seen: &Seen,
+    args: &[&[u8]],
+) -> Result<Word, LineRefused>
+    ensures { Reads (λ word. word) result
+        (write_of wear actor.now seen.now (map (λ arg. arg.now) args.now)) }
 {
     let (name, offset, text) = three(args)?;
     if !is_name(name) || !is_numeral(offset) {
@@ -124,6 +126,9 @@ fn write_of(alloc: Global, wear: u64, seen: &Seen, args: &[&[u8]]) -> Result<Wor
     };
     if !seen.has_room() {
         return refused(Why::Many);
+    }
+    if !is_caller(actor) {
+        return refused(Why::Actor);
     }
     let Some(offset) = number_u32(offset) else {
         return refused(Why::Range);

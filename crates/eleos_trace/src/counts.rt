@@ -1,6 +1,6 @@
 // The words of a line by their number; any other number is of no form.
 ghost use Rattle.std.specs.Prelude.{◌≡◌, List, ℕ, map};
-ghost use Rattle.eleos_trace.specs.Reasons.{Reads, one, two, three, four, five, six};
+ghost use Rattle.eleos_trace.specs.Reasons.{Reads, one, two, three, four, five, six, eight};
 ghost use Rattle.eleos_trace.specs.Reasons.{one_and_more, two_and_more};
 
 use crate::Why;
@@ -72,6 +72,30 @@ pub fn six<'a>(
         return refused(Why::Form);
     };
     Ok((a, b, c, d, e, f))
+}
+
+/// Eight words.
+pub type Eight<'a> = (
+    &'a [u8],
+    &'a [u8],
+    &'a [u8],
+    &'a [u8],
+    &'a [u8],
+    &'a [u8],
+    &'a [u8],
+    &'a [u8],
+);
+
+#[tactic(auto, unfolding(crate::specs::Reasons::eight))]
+pub fn eight<'a>(words: &[&'a [u8]]) -> Result<Eight<'a>, LineRefused>
+    ensures { Reads
+        (λ x. (x.0.now, x.1.now, x.2.now, x.3.now, x.4.now, x.5.now, x.6.now, x.7.now)) result
+        (eight (map (λ word. word.now) words.now)) }
+{
+    let [a, b, c, d, e, f, g, h] = words else {
+        return refused(Why::Form);
+    };
+    Ok((a, b, c, d, e, f, g, h))
 }
 
 /// The first word, and the others.

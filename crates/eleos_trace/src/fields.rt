@@ -1,6 +1,7 @@
 // Numbers, names and bytes.
-ghost use Rattle.std.specs.Prelude.{◌≡◌, ◌+◌, ◌*◌, List, ℕ, IfOk};
+ghost use Rattle.std.specs.Prelude.{◌≡◌, ◌+◌, ◌*◌, List, ℕ, IfOk, IsTrue};
 ghost use Rattle.eleos_trace.specs.Fields.{is_numeral, up_to, number_up_to, most_u32};
+ghost use Rattle.eleos_trace.specs.Fields.{is_up_to, is_below, is_hex};
 ghost use Rattle.eleos_trace.specs.Fields.{is_name, is_name_char, hex_bytes};
 ghost use Rattle.std.specs.List.{list_all};
 ghost use Rattle.std.specs.Char.{is_ascii_digit};
@@ -39,6 +40,25 @@ pub fn number_u32(text: &[u8]) -> Option<u32>
 {
     let number = number_up_to(text, u64::from(u32::MAX))?;
     Some(number as u32)
+}
+
+/// Whether the numeral says a number of at most so much.
+pub fn is_up_to(text: &[u8], most: u64) -> bool
+    requires { IsTrue (is_numeral text.now) }
+    ensures { result ≡ is_up_to most text.now }
+{
+    number_up_to(text, most).is_some()
+}
+
+/// Whether the numeral says a number below this one.
+pub fn is_below(text: &[u8], limit: u64) -> bool
+    requires { IsTrue (is_numeral text.now) }
+    ensures { result ≡ is_below limit text.now }
+{
+    match number_up_to(text, limit) {
+        Some(number) => number < limit,
+        None => false,
+    }
 }
 
 /// Whether the text is a number without a leading zero.
@@ -87,4 +107,11 @@ pub fn hex_bytes(alloc: Global, text: &[u8]) -> Result<Option<Bytes>, NoMemory>
         Err(hex::FromHexError::OutOfMemory) => Err(NoMemory),
         Err(_) => Ok(None),
     }
+}
+
+/// Whether the text is bytes in hex.
+pub fn is_hex(alloc: Global, text: &[u8]) -> Result<bool, NoMemory>
+    ensures { IfOk result (λ hex. hex ≡ is_hex text.now) }
+{
+    Ok(hex_bytes(alloc, text)?.is_some())
 }

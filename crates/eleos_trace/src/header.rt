@@ -1,7 +1,8 @@
 // The lines before the first command, one reader a line.
 ghost use Rattle.std.specs.Prelude.{◌≡◌, List, ℕ, map};
-ghost use Rattle.eleos_trace.specs.Header.{title_line, enclave_line, spare_line, caller_line};
-ghost use Rattle.eleos_trace.specs.Header.{wear_line, key_line, is_key_length, start_line};
+ghost use Rattle.eleos_trace.specs.Machines.{places, all_frames};
+ghost use Rattle.eleos_trace.specs.Header.{title_line, enclave_line, pool_line, caller_line};
+ghost use Rattle.eleos_trace.specs.Header.{often_line, key_line, is_key_length, begin_line};
 ghost use Rattle.eleos_trace.specs.Reasons.{Reads};
 
 use crate::Why;
@@ -11,9 +12,16 @@ use crate::why::{LineRefused, refused};
 use eleos_base::{Bytes, EnclavePlan};
 use std::alloc::Global;
 
+mod further;
 mod whole;
 
 pub(crate) use whole::header_of;
+
+/// Bytes of a page.
+const PAGE_BYTES: u64 = 4096;
+
+/// Bytes of a sub-page.
+const SUB_BYTES: u64 = 1024;
 
 /// Pages of an enclave.
 const MOST_PAGES: u64 = 1024;
@@ -32,6 +40,22 @@ pub(crate) struct Machine {
     pub spare: u32,
     /// How often a sub-page may be sealed.
     pub wear: u64,
+}
+
+impl Machine {
+    /// Its sub-pages.
+    pub(crate) fn places(&self) -> u64
+        ensures { result ≡ places self.now }
+    {
+        PAGE_BYTES * u64::from(self.enclave.pages) / SUB_BYTES
+    }
+
+    /// Its frames, those of the pool included.
+    pub(crate) fn all_frames(&self) -> u64
+        ensures { result ≡ all_frames self.now }
+    {
+        u64::from(self.enclave.frames) + u64::from(self.spare)
+    }
 }
 
 /// What the header says.
@@ -82,8 +106,8 @@ fn enclave_line(words: &[&[u8]]) -> Result<EnclavePlan, LineRefused>
 }
 
 /// `spare S`, beside so many frames of the enclave.
-fn spare_line(frames: u32, words: &[&[u8]]) -> Result<u32, LineRefused>
-    ensures { Reads (λ x. x) result (spare_line frames (map (λ word. word.now) words.now)) }
+fn pool_line(frames: u32, words: &[&[u8]]) -> Result<u32, LineRefused>
+    ensures { Reads (λ x. x) result (pool_line frames (map (λ word. word.now) words.now)) }
 {
     let (first, spare) = two(words)?;
     if first != b"spare".as_slice() || !is_numeral(spare) {
@@ -98,7 +122,7 @@ fn spare_line(frames: u32, words: &[&[u8]]) -> Result<u32, LineRefused>
     Ok(spare as u32)
 }
 
-/// `caller 1 enclave 0`
+/// `caller 1 enclave E`
 fn caller_line(words: &[&[u8]]) -> Result<(), LineRefused>
     ensures { Reads (λ x. x) result (caller_line (map (λ word. word.now) words.now)) }
 {
@@ -106,16 +130,19 @@ fn caller_line(words: &[&[u8]]) -> Result<(), LineRefused>
     if first != b"caller".as_slice()
         || which != b"1".as_slice()
         || second != b"enclave".as_slice()
-        || enclave != b"0".as_slice()
+        || !is_numeral(enclave)
     {
         return refused(Why::Form);
+    }
+    if enclave != b"0".as_slice() {
+        return refused(Why::Enclave);
     }
     Ok(())
 }
 
 /// `wear W`
-fn wear_line(words: &[&[u8]]) -> Result<u64, LineRefused>
-    ensures { Reads (λ x. x) result (wear_line (map (λ word. word.now) words.now)) }
+fn often_line(words: &[&[u8]]) -> Result<u64, LineRefused>
+    ensures { Reads (λ x. x) result (often_line (map (λ word. word.now) words.now)) }
 {
     let (first, wear) = two(words)?;
     if first != b"wear".as_slice() || !is_numeral(wear) {
@@ -155,8 +182,8 @@ fn is_key_length(bytes: usize) -> bool
 }
 
 /// `start`
-fn start_line(words: &[&[u8]]) -> Result<(), LineRefused>
-    ensures { Reads (λ x. x) result (start_line (map (λ word. word.now) words.now)) }
+fn begin_line(words: &[&[u8]]) -> Result<(), LineRefused>
+    ensures { Reads (λ x. x) result (begin_line (map (λ word. word.now) words.now)) }
 {
     if one(words)? != b"start".as_slice() {
         return refused(Why::Form);

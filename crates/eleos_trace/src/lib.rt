@@ -6,10 +6,13 @@ pub mod counts;
 pub mod fields;
 mod header;
 mod names;
+mod planned;
 mod reading;
+mod run_forms;
 mod seen;
 pub mod splits;
 mod trace;
+mod verbs;
 mod why;
 mod word;
 

@@ -7,13 +7,14 @@ ghost use Rattle.eleos_trace.specs.Fields.{is_newline};
 ghost use Rattle.eleos_trace.specs.Header.{header_lines};
 ghost use Rattle.eleos_trace.specs.Reasons.{Gives};
 ghost use Rattle.eleos_trace.specs.Reading.{trace_of, lines_of, commands_of, ended};
-ghost use Rattle.eleos_trace.specs.Reading.{plan_of, by_caller, most_text};
+ghost use Rattle.eleos_trace.specs.Machines.{plan_of};
+ghost use Rattle.eleos_trace.specs.Reading.{by_caller, most_text};
 ghost use Rattle.eleos_trace.specs.Replays.{IsReplay};
 
-use crate::commands::word_of;
 use crate::header::{Machine, header_of};
 use crate::seen::Seen;
 use crate::splits::{first_line, words_of};
+use crate::verbs::word_of;
 use crate::why::at_line;
 use crate::{Actor, Line, Trace, TraceRefused, Why, Word};
 use eleos_base::{List, Plan};
@@ -46,7 +47,7 @@ fn trace_in(alloc: Global, text: &[u8]) -> Result<Trace, TraceRefused>
     ensures { Gives (λ trace. trace) result (lines_of (slice_split is_newline text.now)) }
 {
     let (header, text) = header_of(alloc, text)?;
-    let lines = commands_of(alloc, header.machine.wear, text)?;
+    let lines = commands_of(alloc, &header.machine, text)?;
     let plan = plan_of(alloc, &header.machine)?;
     Ok(Trace {
         plan,
@@ -69,10 +70,11 @@ fn plan_of(alloc: Global, machine: &Machine) -> Result<Plan, AllocError>
 }
 
 /// The commands behind a header, up to the `end` line.
-fn commands_of(alloc: Global, wear: u64, text: &[u8]) -> Result<Vec<Line>, TraceRefused>
+fn commands_of(alloc: Global, machine: &Machine, text: &[u8]) -> Result<Vec<Line>, TraceRefused>
     requires { length text.now ≤ most_text }
     ensures { Gives (λ lines. lines.items) result
-        (commands_of wear (header_lines + 1) nothing_seen (slice_split is_newline text.now)) }
+        (commands_of machine.now (header_lines + 1) nothing_seen
+        (slice_split is_newline text.now)) }
 {
     let mut seen = Seen::nothing(alloc);
     let mut lines = Vec::new(alloc);
@@ -84,7 +86,7 @@ fn commands_of(alloc: Global, wear: u64, text: &[u8]) -> Result<Vec<Line>, Trace
             return Ok(lines);
         }
         let words = words_of(alloc, front)?;
-        let word = at_line(line, word_of(alloc, wear, &seen, &words))?;
+        let word = at_line(line, word_of(alloc, machine, &seen, &words))?;
         seen.add(alloc, &word)?;
         lines.push(by_caller(word))?;
         rest = after;

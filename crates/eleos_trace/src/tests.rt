@@ -2,6 +2,8 @@ use super::*;
 use eleos_base::EnclavePlan;
 use std::test::*;
 
+mod refusals;
+
 /// The header, lines 1 to 7, of a machine whose sub-pages may be sealed twice.
 const HEADER: &str = "eleos 1 replay
 enclave 0 pages 4 frames 2
@@ -63,32 +65,6 @@ fn shown(alloc: std::alloc::Global, word: &Word) -> Result<String, Fail> {
             )?
         }
     })
-}
-
-#[test]
-fn refuses_by_line_and_reason(rt: HostRuntime) -> Result<(), Fail> {
-    let alloc = rt.alloc();
-    let refused = [
-        ("c1 alloc a 1\n", 9, Why::Cut),
-        ("end", 8, Why::Cut),
-        ("end\n\n", 9, Why::After),
-        ("c1 alloc a  1\nend\n", 8, Why::Form),
-        ("c1 alloc a 01\nend\n", 8, Why::Form),
-        ("c1 alloc a 4294967296\nend\n", 8, Why::Range),
-        ("c1 alloc a 1\nc1 alloc a 1\nend\n", 9, Why::Name),
-        ("c1 free a\nend\n", 8, Why::Name),
-        (
-            "c1 alloc a 1\nc1 write a 0 -\nc1 write a 0 -\nc1 write a 0 00\nend\n",
-            11,
-            Why::Later,
-        ),
-    ];
-    for (commands, line, why) in refused {
-        let text = format!(in alloc; "{HEADER}{commands}")?;
-        let bad = TraceRefused::Bad { line, why };
-        assert!(rt; is_refused(alloc, text.as_bytes(), bad), "{commands}");
-    }
-    Ok(())
 }
 
 #[test]

@@ -9,25 +9,25 @@ ghost use Rattle.eleos_top.specs.Outcome.{PutsBy};
 use super::answers::answers;
 use super::reading::vectors_in;
 use super::vector::Vector;
-use crate::input::InputError;
+use crate::input::{InputError, refused};
 use crate::streams::{ReadError, put_lines, read_all};
 use crate::top::{is_only, refuse};
 use eleos_base::{Sink, Source, Status};
-use eleos_trace::{Bad, TraceRefused, Why};
+use eleos_trace::{TraceRefused, Why};
 use std::alloc::Global;
 
 /// Answers vectors: reads them, asks the ciphers and puts what they say.
+///
+/// With status 0 the bytes put are the answers to the vectors; with another status nothing,
+/// the line that refuses the input, or a front.
 pub fn gcm_top<S: Source, K: Sink>(
     alloc: Global,
     words: &[String],
     source: &mut S,
     sink: &mut K,
 ) -> Status
-    // With status 0 the bytes put are the answers to the vectors; with another status nothing,
-    // the line that refuses the input, or a front.
     ensures puts { PutsBy vectors_in AnswersVectors result (S.left source.old)
         (K.got sink.old) (K.got sink.new) (K.faults sink.old) (K.faults sink.new) }
-
     ensures usage { (result ≡ Status.Usage)
         ↔ (map (λ word. string_bytes word) words.now ≢ codes "gcm" ∷ []) }
     ensures read_fault { result ≡ Status.ReadFault → HasRisen (S.faults source.old) (S.faults source.new) }
@@ -70,13 +70,5 @@ fn vectors_from<S: Source>(alloc: Global, source: &mut S) -> Result<Vec<Vector>,
         Ok(vectors) => Ok(vectors),
         Err(TraceRefused::Bad { line, why }) => Err(refused(line, why)),
         Err(TraceRefused::NoMemory) => Err(InputError::Memory),
-    }
-}
-
-fn refused(line: u32, why: Why) -> InputError
-    ensures { result ≡ InputError.Refused (record { line = line; why = why }) }
-{
-    InputError::Refused {
-        bad: Bad { line, why },
     }
 }

@@ -5,10 +5,8 @@ ghost use Rattle.eleos_trace.specs.Fields.{is_newline};
 ghost use Rattle.eleos_trace.specs.Header.{next_words, machine_of, header_of};
 ghost use Rattle.eleos_trace.specs.Reasons.{Gives};
 
-use super::{
-    Header, Machine, caller_line, enclave_line, key_line, spare_line, start_line, title_line,
-    wear_line,
-};
+use super::further::{spare_line, start_line, wear_line};
+use super::{Header, Machine, caller_line, enclave_line, key_line, title_line};
 use crate::splits::{first_line, words_of};
 use crate::why::at_line;
 use crate::{TraceRefused, Why};
@@ -70,6 +68,6 @@ pub(crate) fn header_of(alloc: Global, text: &[u8]) -> Result<(Header, &[u8]), T
     let (words, text) = next_words(alloc, 6, text)?;
     let key = at_line(6, key_line(alloc, &words))?;
     let (words, text) = next_words(alloc, 7, text)?;
-    at_line(7, start_line(&words))?;
+    at_line(7, start_line(machine.enclave.pages, &words))?;
     Ok((Header { machine, key }, text))
 }

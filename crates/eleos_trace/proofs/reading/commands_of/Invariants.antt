@@ -12,7 +12,7 @@ invariant-loop-front l = record {
   count : l.line + length l.rest ≤ length l.text + 8;
   commands : l.seen.commands ≤ l.line;
   writes : l.seen.writes ≤ l.line;
-  whole : with_front l.lines.items (commands_of l.wear l.line l.seen (slice_split is_newline l.rest)) ≡ commands_of l.wear 8 nothing_seen (slice_split is_newline l.text);
+  whole : with_front l.lines.items (commands_of l.machine l.line l.seen (slice_split is_newline l.rest)) ≡ commands_of l.machine 8 nothing_seen (slice_split is_newline l.text);
 }
 
 abbrev pub decreases-loop-front : goal.decreases-loop-front
