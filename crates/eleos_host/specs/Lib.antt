@@ -1,0 +1,9 @@
+pub mod Blocks
+pub mod Crossings
+pub mod Tallies
+pub mod Stores
+pub mod Hosts
+pub mod Ports
+pub mod Taps
+pub mod TapParts
+pub mod Loans

@@ -1,0 +1,28 @@
+// The blocks that lie at the host.
+ghost use Rattle.std.specs.Prelude.{◌≡◌, IfOk, replicate};
+
+use eleos_base::NoMemory;
+use std::alloc::Global;
+
+/// The length of a block, in bytes.
+pub const BLOCK_BYTES: usize = 1024;
+
+/// The bits of a block.
+pub const BLOCK_BITS: u32 = 8 * BLOCK_BYTES as u32;
+
+/// The sealed bytes of one sub-page.
+pub type Block = [u8; BLOCK_BYTES];
+
+/// What a place that was never written reads as.
+pub(crate) const ZEROS: Block = [0; BLOCK_BYTES];
+
+// So many copies of the item.
+pub(crate) fn copies<T: Copy>(alloc: Global, count: u32, item: T) -> Result<Vec<T>, NoMemory>
+    ensures { IfOk result (λ all. all.items ≡ replicate count item) }
+{
+    let mut all = Vec::with_capacity(alloc, count as usize)?;
+    for _done in 0..count {
+        all.push(item)?;
+    }
+    Ok(all)
+}

@@ -1,0 +1,22 @@
+//! The backing store of a host that is not trusted, as the runtime sees it.
+#![tactic(auto)]
+
+mod block;
+mod crossings;
+mod hand;
+mod port;
+mod slot;
+mod store;
+mod tap;
+mod told;
+
+pub use block::{BLOCK_BITS, BLOCK_BYTES, Block};
+pub use crossings::{Crossings, MOST_TOLD};
+pub use hand::{Act, Answer, HostHand};
+pub use port::{HostPort, HostStore};
+pub use slot::{SLOTS, SlotState};
+pub use tap::Tap;
+pub use told::ToldHost;
+
+#[cfg(test)]
+mod tests;
