@@ -110,30 +110,38 @@ is_write_failure _ = false
 
 -- one enclave, by the bytes of its sub-pages and its number
 module _ (size enclave : ℕ) where
-  -- an access of so many bytes lies in one sub-page of the enclave
-  abbrev pub is_in_range : EnclaveMemory → Addr → ℕ → Bool
-  is_in_range m at n = at.enclave == enclave && nat_le 1 n && nat_le (at.at % size + n) size && nat_le (at.at + n) (size * length m.texts)
+  -- an access of so many bytes lies in one sub-page of the enclave, which has so many sub-pages
+  abbrev pub is_in_range : ℕ → Addr → ℕ → Bool
+  is_in_range subs at n = at.enclave == enclave && nat_le 1 n && nat_le (at.at % size + n) size && nat_le (at.at + n) (size * subs)
 
   -- why the caller may not access so many bytes at the address
-  abbrev pub access_refusal : EnclaveMemory → ℕ → Addr → ℕ → Option Reply
-  access_refusal m who at n = if is_in_range m at n then use_refusal who (find (has_sub (at.at / size)) m.blocks) else Some BadRange
+  abbrev pub access_refusal : List Live → ℕ → ℕ → Addr → ℕ → Option Reply
+  access_refusal blocks subs who at n = if is_in_range subs at n then use_refusal who (find (has_sub (at.at / size)) blocks) else Some BadRange
 
-  -- the bytes from the address on
-  abbrev pub bytes_at : EnclaveMemory → ℕ → ℕ → List ℕ
-  bytes_at m at n = take n (drop (at % size) (slice_index_or m.texts (at / size) []))
+  -- so many bytes of a sub-page's text, from the address on
+  abbrev pub bytes_of : ℕ → ℕ → List ℕ → List ℕ
+  bytes_of at n text = take n (drop (at % size) text)
 
   -- the answer to an alloc that may start there
   abbrev pub alloc_answer : Option ℕ → Reply
   alloc_answer None = NoSpace
   alloc_answer (Some start) = Got (record { enclave = enclave; at = size * start })
 
+  -- the answer to an alloc of so many bytes among these live blocks
+  abbrev pub alloc_reply : List Live → ℕ → ℕ → Reply
+  alloc_reply blocks subs n = if is_good_size n then alloc_answer (lowest_run blocks subs (subs_for size n)) else BadSize
+
+  -- the answer to the caller's free or share
+  abbrev pub block_reply : List Live → ℕ → Addr → Reply
+  block_reply blocks who at = unwrap_or (block_refusal who (find (starts_at size enclave at) blocks)) Done
+
   -- the answer to the caller's call
   abbrev pub answer : EnclaveMemory → ℕ → Op → Reply
-  answer m who (Alloc n) = if is_good_size n then alloc_answer (lowest_run m.blocks (length m.texts) (subs_for size n)) else BadSize
-  answer m who (Free at) = unwrap_or (block_refusal who (find (starts_at size enclave at) m.blocks)) Done
-  answer m who (Share at) = unwrap_or (block_refusal who (find (starts_at size enclave at) m.blocks)) Done
-  answer m who (Read at n) = unwrap_or (access_refusal m who at n) (Text (bytes_at m at.at n))
-  answer m who (Write at bytes) = unwrap_or (access_refusal m who at (length bytes)) Done
+  answer m who (Alloc n) = alloc_reply m.blocks (length m.texts) n
+  answer m who (Free at) = block_reply m.blocks who at
+  answer m who (Share at) = block_reply m.blocks who at
+  answer m who (Read at n) = unwrap_or (access_refusal m.blocks (length m.texts) who at n) (Text (bytes_of at.at n (slice_index_or m.texts (at.at / size) [])))
+  answer m who (Write at bytes) = unwrap_or (access_refusal m.blocks (length m.texts) who at (length bytes)) Done
 
   -- a call that plain memory accepts may still be refused by the machine
   abbrev pub may_fail : EnclaveMemory → ℕ → Op → Reply → Bool

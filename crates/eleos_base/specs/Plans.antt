@@ -1,6 +1,8 @@
 -- Plans: sizes, who belongs where, and which plans are good.
-use Rattle.std.specs.Prelude.{ℕ, ◌+◌, ◌-◌, ◌*◌, ◌/◌, ◌^◌, ◌<◌, ◌≤◌, List, length, All, sum_by, slice_index}
+use Rattle.std.specs.Prelude.{◌≡◌, ◌⊎◌, ℕ, ◌+◌, ◌-◌, ◌*◌, ◌/◌, ◌^◌, ◌<◌, ◌≤◌, List, length, All, sum_by, slice_index}
+use Rattle.std.specs.List.{AllByRecursion}
 use Rattle.eleos_base.specs.declared.plan.Plan.{Plan}
+use Rattle.eleos_base.specs.declared.plan.BlockPlan.{BlockPlan}
 use Rattle.eleos_base.specs.declared.plan.EnclavePlan.{EnclavePlan}
 
 -- bytes of a page
@@ -27,7 +29,14 @@ pub record IsCaller (plan : Plan) (who : ℕ) : Type 0 where
 abbrev pub AreGoodPages : List EnclavePlan → Type 0
 AreGoodPages enclaves = All (λ enclave. (1 ≤ enclave.pages) × (enclave.pages ≤ 1024)) enclaves
 
--- what every plan keeps to; header blocks are judged beside it
+-- a header block has a good size and an enclave of the plan, and is nobody's or a caller's of that enclave
+pub record IsGoodBlock (plan : Plan) (block : BlockPlan) : Type 0 where
+  pub some_bytes : 1 ≤ block.bytes
+  pub bytes : block.bytes ≤ 65536
+  pub home : block.enclave < length plan.enclaves
+  pub owner : (block.owner ≡ 0) ⊎ (IsCaller plan block.owner × (enclave_of plan block.owner ≡ block.enclave))
+
+-- what every plan keeps to; whether there is room for its header blocks is judged beside it
 pub record IsGood (plan : Plan) : Type 0 where
   pub some_enclave : 1 ≤ length plan.enclaves
   pub enclaves : length plan.enclaves ≤ 8
@@ -39,3 +48,4 @@ pub record IsGood (plan : Plan) : Type 0 where
   pub at_home : All (λ enclave. enclave < length plan.enclaves) plan.callers
   pub some_wear : 1 ≤ plan.wear
   pub wear : plan.wear ≤ 2 ^ 63
+  pub blocks : AllByRecursion (IsGoodBlock plan) plan.blocks

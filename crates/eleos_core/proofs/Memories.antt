@@ -27,9 +27,9 @@ block_refusal-refuses who (Some block) reply is = by_test (eqb block.owner who)
     (λ his. absurd (let wrong : None ≡ Some reply = rw his at is in cc))
     (λ other. (let same : NotYours block.owner ≡ reply = (let found = rw other at is in cc) in rw (← same) refl))
 
-pub access_refusal-refuses : (size enclave : ℕ) (m : EnclaveMemory) (who : ℕ) (at : Addr) (n : ℕ) (reply : Reply) → access_refusal size enclave m who at n ≡ Some reply → is_accepted reply ≡ false
-access_refusal-refuses size enclave m who at n reply is = by_test (is_in_range size enclave m at n)
-    (λ inside. use_refusal-refuses who (find (has_sub (at.at / size)) m.blocks) reply (rw inside at is))
+pub access_refusal-refuses : (size enclave : ℕ) (blocks : List Live) (subs who : ℕ) (at : Addr) (n : ℕ) (reply : Reply) → access_refusal size enclave blocks subs who at n ≡ Some reply → is_accepted reply ≡ false
+access_refusal-refuses size enclave blocks subs who at n reply is = by_test (is_in_range size enclave subs at n)
+    (λ inside. use_refusal-refuses who (find (has_sub (at.at / size)) blocks) reply (rw inside at is))
     (λ outside. (let same : BadRange ≡ reply = (let found = rw outside at is in cc) in rw (← same) refl))
 
 -- one enclave and one call

@@ -3,8 +3,7 @@ use Rattle.std.specs.Prelude.{◌≡◌, ℕ, ◌<◌, length, All}
 use Rattle.eleos_base.specs.declared.plan.Plan.{Plan}
 use Rattle.eleos_base.specs.declared.memory.Reply.{Reply}
 use Rattle.eleos_base.specs.Plain.{Plain, opening, plain_reply, plain_after}
-use Rattle.eleos_core.specs.declared.event.Event.{Event}
-use Rattle.eleos_core.specs.declared.event.Event.TheVariants.{Op}
+use Rattle.eleos_base.specs.declared.memory.Op.{Op}
 
 -- a plan, and the memory of its machine
 pub record Held : Type 0 where
@@ -20,6 +19,6 @@ pub record IsOpened (plan : Plan) (held : Held) : Type 0 where
   pub plan_is : held.plan ≡ plan
   pub memory_is : held.memory ≡ opening plan
 
--- a caller's event got this reply of plain memory, which is then what the reply makes of it
-abbrev pub IsAnswered : Held → ℕ → Event → Reply → Held → Type 0
-IsAnswered held who (Op op) reply held' = (reply ≡ plain_reply held.plan held.memory who op) × (held' ≡ record held { memory = plain_after held.plan who op reply held.memory })
+-- a caller's call got this reply of plain memory, which is then what the reply makes of it
+abbrev pub IsAnswered : Held → ℕ → Op → Reply → Held → Type 0
+IsAnswered held who op reply held' = (reply ≡ plain_reply held.plan held.memory who op) × (held' ≡ record held { memory = plain_after held.plan who op reply held.memory })

@@ -1,2 +1,11 @@
 pub mod Held
 pub mod Order
+pub mod Runs
+pub mod Places
+pub mod Seals
+pub mod Sweeps
+pub mod State
+pub mod Legal
+pub mod Laws
+pub mod Parts
+pub mod PartLaws

@@ -161,7 +161,8 @@ impl EnclaveMemory {
 
     /// Why the caller may not access so many bytes at the address.
     fn access_refusal(&self, enclave: u16, who: u32, at: Addr, len: usize) -> Option<Reply>
-        ensures refusal { result ≡ access_refusal 1024 enclave self.now who at len }
+        ensures refusal { result
+            ≡ access_refusal 1024 enclave self.now.blocks (length self.now.texts) who at len }
         ensures in_one { IfNone result (at.at % 1024 + len ≤ 1024) }
         ensures in_all { IfNone result (at.at / 1024 < length self.now.texts) }
     {

@@ -4,8 +4,9 @@
 mod blocks;
 mod enclave;
 mod event;
+pub mod laws;
 mod machine;
 mod texts;
 
-pub use event::{Effect, Event};
-pub use machine::Core;
+pub use event::{Block, Entry, Event, Goal, Wanted};
+pub use machine::{Core, Effect};

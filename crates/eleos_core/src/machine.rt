@@ -4,10 +4,15 @@ ghost use Rattle.eleos_base.specs.Plans.{IsGood, IsCaller};
 ghost use Rattle.eleos_core.specs.Held.{IsOpened};
 
 use crate::enclave::EnclaveMemory;
-use crate::{Effect, Event};
-use eleos_base::{NoMemory, Plan};
+use eleos_base::{NoMemory, Op, Plan, Reply};
 use std::alloc::Global;
 use std::marker::Model;
+
+/// What a call brought about.
+#[derive(Debug, Drop)]
+pub struct Effect {
+    pub reply: Reply,
+}
 
 /// A machine's memory, with its plan.
 #[derive(Drop)]
@@ -46,14 +51,13 @@ impl Core {
         })
     }
 
-    /// Takes a step of a caller's. After want of memory nothing has changed.
-    pub fn apply(&mut self, alloc: Global, who: u32, event: &Event) -> Result<Effect, NoMemory>
+    /// Answers a caller's call. After want of memory nothing has changed.
+    pub fn apply(&mut self, alloc: Global, who: u32, op: &Op) -> Result<Effect, NoMemory>
         requires { IsCaller self.old.plan who }
         ensures step { IfOk result (λ effect.
-            IsAnswered self.old who event.now effect.reply self.new) }
+            IsAnswered self.old who op.now effect.reply self.new) }
         ensures err { OnErr result (self.new ≡ self.old) }
     {
-        let Event::Op(op) = event;
         let enclave = self.plan.callers.as_slice()[who as usize - 1];
         let memory = &mut self.memories[enclave as usize];
         let reply = memory.answer(alloc, enclave, who, op)?;

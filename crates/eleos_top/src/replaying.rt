@@ -9,7 +9,7 @@ ghost use Rattle.eleos_top.specs.Replay.{place_by, with_place, Says, replayed};
 use crate::places::Places;
 use crate::text::{push, push_actor, push_end, push_number, push_reply, push_word};
 use eleos_base::{NoMemory, Reply};
-use eleos_core::{Core, Event};
+use eleos_core::Core;
 use eleos_trace::{Actor, Line, Trace, Word};
 use std::alloc::Global;
 
@@ -48,8 +48,7 @@ fn say(
         push_skipped(alloc, text, line)?;
         return Ok(stamp);
     };
-    let event = Event::Op(op);
-    let effect = core.apply(alloc, number_of(line.actor), &event)?;
+    let effect = core.apply(alloc, number_of(line.actor), &op)?;
     bind(alloc, places, &line.command, &effect.reply)?;
     push_said(alloc, text, stamp, line, &effect.reply)?;
     Ok(stamp + 1)

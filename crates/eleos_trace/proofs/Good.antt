@@ -127,6 +127,7 @@ good_plan m good = record {
   at_home = All-from_recursion (λ enclave. enclave < 1) (0 ∷ []) (omega arith, tt);
   some_wear = good.some_wear;
   wear = good.wear;
+  blocks = tt;
 }
 
 -- ---- the commands

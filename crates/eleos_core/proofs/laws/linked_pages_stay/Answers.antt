@@ -1,0 +1,5 @@
+use Rattle.eleos_core.proofs.Links.{linked_pages}
+use Rattle.eleos_core.proofs.laws.linked_pages_stay.Goals as goal
+
+pub returns : goal.returns
+returns c = record { linked = linked_pages }

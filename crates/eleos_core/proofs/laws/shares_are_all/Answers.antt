@@ -1,0 +1,5 @@
+use Rattle.eleos_core.proofs.Shares.{shares_are_all}
+use Rattle.eleos_core.proofs.laws.shares_are_all.Goals as goal
+
+pub returns : goal.returns
+returns c = record { shares = shares_are_all }
