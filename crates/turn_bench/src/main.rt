@@ -1,0 +1,28 @@
+//! Rounds of turns, and of an atomic add beside them, to be timed from outside. It keeps no clock.
+#![tactic(auto)]
+
+mod order;
+mod tally;
+mod work;
+mod worker;
+
+use order::{Kind, Order, read_order};
+use std::process::ExitCode;
+use std::{env, io};
+use work::{add_rounds, turn_rounds};
+
+fn main(rt: HostRuntime) -> io::Result<ExitCode> {
+    let mut words = env::args(&rt)?.skip(1);
+    let (kind, rounds) = (words.next(), words.next());
+    let Some(Order { kind, rounds }) = read_order(kind, rounds) else {
+        eprintln!(rt; "usage: turn_bench add|turn|four ROUNDS")?;
+        return Ok(ExitCode::from(2));
+    };
+    let made = match kind {
+        Kind::Add => add_rounds(rounds),
+        Kind::Turn => turn_rounds(&rt, rt.alloc(), rounds, false)?,
+        Kind::Four => turn_rounds(&rt, rt.alloc(), rounds, true)?,
+    };
+    println!(rt; "{made}")?;
+    Ok(ExitCode::SUCCESS)
+}
