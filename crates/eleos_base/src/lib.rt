@@ -12,7 +12,7 @@ mod streams;
 mod told;
 
 pub use list::{Bytes, List};
-pub use memory::{Addr, Live, Looked, NoMemory, Op, Reply};
+pub use memory::{Addr, Live, Looked, NoMemory, Op, Part, Reply};
 pub use outside::{Failed, Sink, Source};
 pub use plan::{BlockPlan, EnclavePlan, Plan};
 pub use plot::{Base, Event, Plot, Tied};

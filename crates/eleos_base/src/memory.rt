@@ -60,6 +60,23 @@ pub enum Reply {
     Short { share: u32 },
 }
 
+/// What an event that is not legal offends against.
+#[derive(Clone, Copy, Debug, PartialEq, Eq)]
+pub enum Part {
+    /// The page is in a frame.
+    Present,
+    /// The frame holds a page, or is not owned by the page's enclave.
+    Frame,
+    /// The page is not in that frame, or in none.
+    Absent,
+    /// Somebody links the page.
+    Linked,
+    /// The frame is not owned by that owner.
+    Owner,
+    /// The caller has no link of the page.
+    Untied,
+}
+
 /// Want of memory.
 #[derive(Clone, Copy, Debug, PartialEq, Eq)]
 pub struct NoMemory;

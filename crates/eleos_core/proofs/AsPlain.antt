@@ -15,7 +15,7 @@ use Rattle.eleos_core.specs.Seals.{Seals}
 use Rattle.eleos_core.specs.Places.{subs, first_sub, is_sub_of, blank_bytes}
 use Rattle.eleos_core.specs.State.{History, live, live_by, covers, writes, rewritten}
 use Rattle.eleos_core.proofs.Ranges.{range-same, range-set, range-from, from-range, get_or-map_from, replicate-range}
-use Rattle.eleos_core.proofs.Places.{blank-is, sub-inside, sub-local, sub-outside, subs-is}
+use Rattle.eleos_core.proofs.Addresses.{blank-is, sub-inside, sub-local, sub-outside, subs-is}
 use Rattle.eleos_core.proofs.Passed.{here, apart}
 use Rattle.eleos_core.proofs.Contents.{text, text_by}
 

@@ -20,7 +20,7 @@ use Rattle.eleos_core.specs.State.{History, entry, live, frame, is_present, is_d
 use Rattle.eleos_core.specs.Legal.{passed, CallStep, EventStep, AreTrue, access_refusal, is_worn, verdict}
 use Rattle.eleos_core.proofs.Tests.{by_test, first_of, second_of}
 use Rattle.eleos_core.proofs.Replies.{access_refuses, write_accepted, by_blocks}
-use Rattle.eleos_core.proofs.Places.{has-sub_of, at_home, sub_of-is, sub-again}
+use Rattle.eleos_core.proofs.Addresses.{has-sub_of, at_home, sub_of-is, sub-again}
 use Rattle.eleos_core.proofs.OneSubPage.{op_text, op_clean, evict_text, evict_clean, fill_text, fill_clean}
 use Rattle.eleos_core.proofs.Passed.{block-true, has-filter, has-place}
 

@@ -46,7 +46,7 @@ judged_same f g [] (c ∷ cs) h = refl
 judged_same f g (s ∷ ss) [] h = refl
 judged_same f g (s ∷ ss) (c ∷ cs) h = ap (λ v. if v then judged f ss cs else failed_last s cs) (h.0 c) ∙ ap (λ j. if g s c then j else failed_last s cs) (judged_same f g ss cs h.1)
 
-each_filter : (P : ℕ → Type 0) (t : ℕ → Bool) (a n : ℕ) → ((s : ℕ) → a ≤ s → s < a + n → t s ≡ true → P s) → AllByRecursion P (filter t (range_with_len a n))
+pub each_filter : (P : ℕ → Type 0) (t : ℕ → Bool) (a n : ℕ) → ((s : ℕ) → a ≤ s → s < a + n → t s ≡ true → P s) → AllByRecursion P (filter t (range_with_len a n))
 each_filter P t a zero h = tt
 each_filter P t a (suc n) h = by_test (t a) (λ v. t a ≡ v → AllByRecursion P (if v then a ∷ filter t (range_with_len (a + 1) n) else filter t (range_with_len (a + 1) n)))
     (λ _ e. (h a (omega arith) (omega arith) e, each_filter P t (a + 1) n (λ s l u e'. h s (omega arith) (omega arith) e')))
@@ -76,7 +76,7 @@ module _ (k : Plan) (x : Seals) (past : History) where
   frame_here p h = ap (λ (q : Part). frame_in q) (page_here p h)
 
   -- a block of a sealed sub-page is judged alike
-  passes_same : (s : ℕ) → is_sealed k past s ≡ true → (c : List ℕ) → passes_in k x (parts_of k x past (page_of k s)) s c ≡ passes k x past s c
+  pub passes_same : (s : ℕ) → is_sealed k past s ≡ true → (c : List ℕ) → passes_in k x (parts_of k x past (page_of k s)) s c ≡ passes k x past s c
   passes_same s sealed c = ap (λ (u : SubPart). pointwise nat_eq (x.tag s u.version c) u.tag) (part_of_sub k x past s)
       ∙ ap (λ v. pointwise nat_eq (x.tag s (version k past s) c) (if v then x.tag s (version k past s) (last k x past s) else [])) sealed
 

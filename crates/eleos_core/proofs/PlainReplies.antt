@@ -18,7 +18,7 @@ use Rattle.eleos_core.specs.Seals.{Seals}
 use Rattle.eleos_core.specs.State.{History, entry, found, live, places}
 use Rattle.eleos_core.proofs.AsPlain.{as_plain, enclave_memory, length-texts, memory-is, texts-at}
 use Rattle.eleos_core.proofs.Contents.{found-is, in_range, text}
-use Rattle.eleos_core.proofs.Places.{at_home, local-within, sub_of-is}
+use Rattle.eleos_core.proofs.Addresses.{at_home, local-within, sub_of-is}
 
 -- the reply to an access with this refusal: the refusal, else the good one, or one of the machine's failures
 abbrev IsReply : Option Reply → Reply → (Reply → Bool) → Reply → Type 0

@@ -197,7 +197,7 @@ module _ (k : Plan) where
     shares_step past who (Spoiled wanted) blocks reply step once all = all
     shares_step past who (Survey e goal sweep) blocks reply step once all = all
 
-    shares_sum : (h : History) → CoreRun k x h → all_shares h ≡ all_frames k
+    pub shares_sum : (h : History) → CoreRun k x h → all_shares h ≡ all_frames k
     shares_sum [] run = shares_start
     shares_sum (e ∷ past) run = shares_step past e.who e.event e.blocks e.reply run.0 (stands_once x past run.1) (shares_sum past run.1)
 

@@ -118,13 +118,13 @@ pub writes_no_other : (k : Plan) (who : ℕ) (op : Calls) (reply : Reply) (s : �
 writes_no_other k who op reply s e = let z = second_of (is_sub_of k (enclave_of k who) s) false e in cc
 
 module _ (k : Plan) (x : Seals) (past : History) where
-  abbrev ps : Event → ℕ → List ℕ
+  abbrev pub ps : Event → ℕ → List ℕ
   ps event s = places_in k event (frame past (page_of k s)) (parts_of k x past (page_of k s))
 
-  abbrev opens : List ℕ → List (List ℕ) → ℕ → List ℕ
+  abbrev pub opens : List ℕ → List (List ℕ) → ℕ → List ℕ
   opens qs blocks s = if is_sealed k past s then x.unseal s (version k past s) (block_for qs blocks s) else blank_bytes k
 
-  opened_write : (who : ℕ) (event : Event) (blocks : List (List ℕ)) (reply : Reply) (s : ℕ) → CoreStep k x past (entry who event blocks reply) → writes k who event reply s ≡ true → opens (ps event s) blocks s ≡ opens (places k event past) blocks s
+  pub opened_write : (who : ℕ) (event : Event) (blocks : List (List ℕ)) (reply : Reply) (s : ℕ) → CoreStep k x past (entry who event blocks reply) → writes k who event reply s ≡ true → opens (ps event s) blocks s ≡ opens (places k event past) blocks s
   opened_write who (Op (Write at new)) blocks reply s step w =
       let there : s ≡ sub_of k at = sym (written k x past who at new blocks reply s step w).there in
       ap (λ qs. opens qs blocks s) (subst (λ (q : ℕ). (if is_present k past s then [] else if (sub_in k (parts_of k x past (page_of k s)) q).is_sealed then q ∷ [] else []) ≡ (if is_present k past q then [] else filter (is_sealed k past) (q ∷ []))) there

@@ -5,9 +5,9 @@ use Rattle.eleos_base.specs.declared.plan.Plan.{Plan}
 use Rattle.eleos_base.specs.Plain.{PlainRun, opening}
 use Rattle.eleos_base.specs.Plans.{IsGood}
 use Rattle.eleos_core.specs.Legal.{CoreRun, Sound}
-use Rattle.eleos_core.specs.Places.{Owner, all_frames}
+use Rattle.eleos_core.specs.Places.{Owner, all_frames, home_of}
 use Rattle.eleos_core.specs.Seals.{nonce_of, seals_by}
-use Rattle.eleos_core.specs.State.{History, calls, frame, frames_of, holder, links, sealings, version}
+use Rattle.eleos_core.specs.State.{History, calls, frame, frames_of, holder, links, owner, sealings, version}
 
 -- the nonces that a history sealed under, in order
 abbrev pub nonces : Plan → History → List (List ℕ)
@@ -38,6 +38,10 @@ pub record FreshNonces (k : Plan) (h : History) : Type 0 where
 -- a page that somebody links is in a frame
 abbrev pub LinkedStay : Plan → History → Type 0
 LinkedStay k h = (by p : ℕ) → 1 ≤ links k h by p → IsSome (frame h p)
+
+-- a page lies in a frame that its enclave owns
+abbrev pub PagesAtHome : Plan → History → Type 0
+PagesAtHome k h = (p f : ℕ) → frame h p ≡ Some f → owner k h f ≡ home_of k p
 
 -- the shares of all enclaves and the pool are the machine's frames, and no share holds more pages than it has frames
 pub record SharesAreAll (k : Plan) (h : History) : Type 0 where

@@ -1,6 +1,6 @@
 //! The laws over every list of events.
 
-ghost use Rattle.eleos_core.specs.Laws.{FreshNonces, LinkedStay, OfEveryRun, RunsPlain, SharesAreAll};
+ghost use Rattle.eleos_core.specs.Laws.{FreshNonces, LinkedStay, OfEveryRun, PagesAtHome, RunsPlain, SharesAreAll};
 ghost use Rattle.eleos_core.specs.PartLaws.{PartsAllow, PartsJudge, PartsKeepUp};
 
 /// The calls of a sound legal history are one run of plain memory from the opening of the plan.
@@ -11,6 +11,11 @@ pub fn calls_run_plain()
 /// A page that somebody links is in a frame.
 pub fn linked_pages_stay()
     ensures linked { OfEveryRun (λ k key h. LinkedStay k h) }
+{}
+
+/// A page lies in a frame that its enclave owns.
+pub fn pages_lie_at_home()
+    ensures at_home { OfEveryRun (λ k key h. PagesAtHome k h) }
 {}
 
 /// The shares of all enclaves and the pool are the machine's frames, and no share holds more pages

@@ -1,0 +1,70 @@
+-- What tests of owners and of links tell.
+use Rattle.std.proofs.Common.{◌≡◌, ◌≢◌, ℕ, ◌+◌, ◌*◌, ◌<◌, ◌≤◌, List, [], ◌∷◌, length, count_by, cond, slice_index, slice_index_or, if◌then◌else◌, Bool, true, false, not, Option, Some, None, is_some, nat_eq, refl, sym, subst, ◌∙◌, ap, arith, eq-eqb}
+use Rattle.std.specs.Option.{option_eq}
+use Rattle.std.proofs.lemmas.Bool.{eqb-true}
+use Rattle.std.proofs.lemmas.List.{get_or_default}
+use Rattle.std.proofs.lemmas.List.Sums.{sum_by-cons}
+use Rattle.std.proofs.lemmas.Nat.{mul-add-lt}
+use Rattle.eleos_base.specs.Lists.{map_from}
+use Rattle.eleos_core.specs.declared.cells.page.Present.{Present}
+use Rattle.eleos_core.specs.declared.cells.page.Page.{Page}
+use Rattle.eleos_core.specs.declared.cells.sub_page.SubPage.{SubPage}
+use Rattle.eleos_core.specs.Cells.{frame_of_page, part_of_page, part_with, piece, sub_parts}
+use Rattle.eleos_core.specs.Fills.{sealed_places}
+use Rattle.eleos_core.specs.Parts.{sealed_from}
+use Rattle.eleos_core.specs.Places.{Owner}
+
+pub not_false : (b : Bool) → not b ≡ false → b ≡ true
+not_false true is = refl
+not_false false is = cc
+
+-- two owners that the test tells apart, or not
+pub owner_same : (a b : Owner) → option_eq nat_eq a b ≡ true → a ≡ b
+owner_same None None is = refl
+owner_same None (Some e) is = cc
+owner_same (Some e) None is = cc
+owner_same (Some e) (Some o) is = ap Some (eqb-true e o is)
+
+owner_itself : (a : Owner) → option_eq nat_eq a a ≡ true
+owner_itself None = refl
+owner_itself (Some e) = eq-eqb e e refl
+
+pub owner_other : (a b : Owner) → option_eq nat_eq a b ≡ false → a ≢ b
+owner_other a b is same = let yes : option_eq nat_eq a b ≡ true = subst (λ o. option_eq nat_eq a o ≡ true) same (owner_itself a) in cc
+
+-- a number of links that was read, and is not 0
+pub link_here : (links : List ℕ) (caller pages page callers n read : ℕ) → read ≡ slice_index_or links (caller * n + page) read → read ≢ 0 → n ≡ pages → caller < callers → page < pages
+    → length links ≡ callers * pages → 1 ≤ slice_index links (caller * pages + page)
+link_here links caller pages page callers n read read_is some same caller_exists page_exists whole =
+    let inside : caller * pages + page < length links = omega (arith, mul-add-lt caller pages page callers caller_exists page_exists) in
+    let at : read ≡ slice_index links (caller * pages + page) = read_is ∙ (ap (λ m. slice_index_or links (caller * m + page) read) same ∙ get_or_default links (caller * pages + page) read 0 inside) in
+    omega arith
+
+-- a page that is in no frame
+pub not_present : (o : Option Present) → is_some o ≡ false → frame_of_page o ≡ None
+not_present None is = refl
+not_present (Some present) is = cc
+
+-- as many places as sealed sub-pages
+abbrev lies_sealed : SubPage → Bool
+lies_sealed u = is_some u.tag
+
+length_if : (b : Bool) (s : ℕ) (ps : List ℕ) (n : ℕ) → length ps ≡ n → length (if b then s ∷ ps else ps) ≡ cond b 1 0 + n
+length_if true s ps n is = omega arith
+length_if false s ps n is = omega arith
+
+count_absent : (s : ℕ) (us : List SubPage) → length (sealed_from s (sub_parts us None)) ≡ count_by lies_sealed us
+count_absent s [] = refl
+count_absent s (u ∷ us) = length_if (lies_sealed u) s (sealed_from (s + 1) (sub_parts us None)) (count_by lies_sealed us) (count_absent (s + 1) us) ∙ sym (sum_by-cons (λ (v : SubPage). cond (lies_sealed v) 1 0) u us)
+
+count_present : (h : ℕ → List ℕ) (s i : ℕ) (us : List SubPage) → length (sealed_from s (map_from (λ j u. part_with u (h j)) i us)) ≡ count_by lies_sealed us
+count_present h s i [] = refl
+count_present h s i (u ∷ us) = length_if (lies_sealed u) s (sealed_from (s + 1) (map_from (λ j v. part_with v (h j)) (i + 1) us)) (count_by lies_sealed us) (count_present h (s + 1) (i + 1) us)
+    ∙ sym (sum_by-cons (λ (v : SubPage). cond (lies_sealed v) 1 0) u us)
+
+pub count_places : (p : ℕ) (page : Page) → length (sealed_places p (part_of_page page)) ≡ count_by (λ (u : SubPage). is_some u.tag) page.subs.items
+count_places p page = by_present page.present
+  where
+    by_present : (o : Option Present) → length (sealed_from (p * 4) (sub_parts page.subs.items o)) ≡ count_by lies_sealed page.subs.items
+    by_present None = count_absent (p * 4) page.subs.items
+    by_present (Some present) = count_present (λ i. piece i present.bytes.items) (p * 4) 0 page.subs.items

@@ -1,0 +1,95 @@
+// Reads and writes of a machine's memory.
+ghost use Rattle.std.specs.Prelude.{◌≡◌, map, IfOk, OnErr};
+ghost use Rattle.eleos_base.specs.Plans.{IsCaller};
+ghost use Rattle.eleos_core.specs.Accesses.{AreBlocks, call_places, read_stamp, refusal_on};
+ghost use Rattle.eleos_core.specs.Accesses.{write_stamp};
+ghost use Rattle.eleos_core.specs.Applying.{Makes, parts_in, put_of, puts_in};
+ghost use Rattle.eleos_core.specs.Seals.{seals_by};
+
+mod openings;
+mod pages;
+mod places;
+mod refusals;
+mod spots;
+
+use crate::accesses::pages::{read_page, write_page};
+use crate::accesses::refusals::{is_worn, use_refusal};
+use crate::event::{Block, Event};
+use crate::vault::{Outcome, Vault};
+use eleos_base::{Addr, NoMemory, Op, Reply, Sealer};
+pub use pages::only_reply;
+pub use spots::{Spot, is_in_range, spot_of};
+use std::alloc::Global;
+
+impl Vault {
+    /// Why the caller may not access so many bytes at the address.
+    pub fn access_refusal(&self, who: u32, at: Addr, len: usize) -> Option<Reply>
+        requires { IsCaller self.now.plan who }
+        ensures { result ≡ refusal_on self.now who at len }
+    {
+        let enclave = self.plan.callers.as_slice()[who as usize - 1];
+        if !is_in_range(&self.plan, enclave, at, len) {
+            return Some(Reply::BadRange);
+        }
+        let spot = spot_of(&self.plan, at);
+        let page = &self.pages[spot.page as usize];
+        use_refusal(who, page.subs[spot.index].block)
+    }
+
+    /// Answers a read. Nothing changes.
+    pub fn read<S: Sealer>(
+        &self,
+        alloc: Global,
+        sealer: &S,
+        who: u32,
+        at: Addr,
+        len: u32,
+        blocks: &[Block],
+    ) -> Result<Reply, NoMemory>
+        requires caller { IsCaller self.now.plan who }
+        requires blocks { AreBlocks (call_places self.now who (Op.Read at len)) blocks.now }
+        ensures { IfOk result (λ reply.
+            Makes (seals_by (S.key sealer.now)) (read_stamp who at len blocks.now reply)
+            self.now self.now) }
+    {
+        let plan = &self.plan;
+        if let Some(refusal) = self.access_refusal(who, at, len as usize) {
+            return Ok(refusal);
+        }
+        let spot = spot_of(plan, at);
+        let page = &self.pages[spot.page as usize];
+        read_page(alloc, plan, sealer, page, who, at, len, blocks)
+    }
+
+    /// Answers a write, with the block for the host where the page is absent.
+    /// After want of memory nothing has changed.
+    pub fn write<S: Sealer>(
+        &mut self,
+        alloc: Global,
+        sealer: &S,
+        who: u32,
+        at: Addr,
+        bytes: &[u8],
+        blocks: &[Block],
+    ) -> Result<Outcome, NoMemory>
+        requires caller { IsCaller self.old.plan who }
+        requires blocks { AreBlocks (call_places self.old who (Op.Write at bytes.now)) blocks.now }
+        ensures makes { IfOk result (λ outcome.
+            Makes (seals_by (S.key sealer.now))
+            (write_stamp who at bytes.now blocks.now outcome.reply) self.old self.new) }
+        ensures puts { IfOk result (λ outcome.
+            map put_of outcome.puts
+            ≡ puts_in self.old.plan (seals_by (S.key sealer.now))
+            (write_stamp who at bytes.now blocks.now outcome.reply)
+            (parts_in self.old) (Event.Op (Op.Write at bytes.now))) }
+        ensures err { OnErr result (self.new ≡ self.old) }
+    {
+        if let Some(refusal) = self.access_refusal(who, at, bytes.len()) {
+            return Ok(only_reply(alloc, refusal));
+        }
+        let spot = spot_of(&self.plan, at);
+        let page = &mut self.pages[spot.page as usize];
+        let outcome = write_page(alloc, &self.plan, sealer, page, who, at, bytes, blocks)?;
+        Ok(outcome)
+    }
+}

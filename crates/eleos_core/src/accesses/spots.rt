@@ -1,0 +1,70 @@
+// Where an address lies among pages and sub-pages.
+ghost use Rattle.std.specs.Prelude.{◌≡◌, ◌<◌, ◌≤◌, length};
+ghost use Rattle.eleos_base.specs.Plain.{is_in_range};
+ghost use Rattle.eleos_base.specs.Plans.{IsGood, sub_bytes};
+ghost use Rattle.eleos_core.specs.Accesses.{IsSpot};
+ghost use Rattle.eleos_core.specs.Places.{page_counts, subs};
+ghost use Rattle.eleos_core.specs.Runs.{first_of_run};
+
+use crate::blocks::SUB_BYTES;
+use eleos_base::{Addr, Plan};
+
+/// Sub-pages of a page.
+const SUBS_PER_PAGE: u32 = 4;
+
+/// Where an address lies.
+#[derive(Clone, Copy, Debug, PartialEq, Eq)]
+pub struct Spot {
+    pub page: u32,
+    /// The place of its sub-page with the host.
+    pub place: u32,
+    /// Which of its page's sub-pages it is.
+    pub index: usize,
+    /// The byte in the sub-page.
+    pub from: usize,
+}
+
+/// Where the address lies.
+pub fn spot_of(plan: &Plan, at: Addr) -> Spot
+    requires good { IsGood plan.now }
+    requires enclave { at.enclave < length plan.now.enclaves }
+    ensures { IsSpot plan.now at result }
+{
+    let place = first_page(plan, at.enclave) * SUBS_PER_PAGE + at.at / SUB_BYTES;
+    Spot {
+        page: place / SUBS_PER_PAGE,
+        place,
+        index: (place % SUBS_PER_PAGE) as usize,
+        from: (at.at % SUB_BYTES) as usize,
+    }
+}
+
+/// The number of the enclave's first page.
+fn first_page(plan: &Plan, enclave: u16) -> u32
+    requires good { IsGood plan.now }
+    requires enclave { enclave < length plan.now.enclaves }
+    ensures first { result ≡ first_of_run (page_counts plan.now) enclave }
+    ensures within { result ≤ 4096 }
+{
+    let mut first = 0;
+    let before = &plan.enclaves.as_slice()[..enclave as usize];
+    for made in before {
+        first += made.pages;
+    }
+    first
+}
+
+/// So many bytes from the address on lie in one sub-page of the enclave.
+pub fn is_in_range(plan: &Plan, enclave: u16, at: Addr, len: usize) -> bool
+    requires good { IsGood plan.now }
+    requires enclave { enclave < length plan.now.enclaves }
+    ensures { result
+        ≡ is_in_range (sub_bytes plan.now enclave) enclave (subs plan.now enclave) at len }
+{
+    let subs = plan.enclaves.as_slice()[enclave as usize].pages * SUBS_PER_PAGE;
+    at.enclave == enclave
+        && len > 0
+        && len <= SUB_BYTES as usize
+        && (at.at % SUB_BYTES) as usize + len <= SUB_BYTES as usize
+        && at.at as usize + len <= subs as usize * SUB_BYTES as usize
+}

@@ -1,0 +1,52 @@
+// Calls on memory, applied.
+ghost use Rattle.std.specs.Prelude.{◌≡◌, Err, IfOk, OnErr};
+ghost use Rattle.eleos_base.specs.Plans.{IsCaller};
+ghost use Rattle.eleos_core.specs.Accesses.{AreBlocks};
+ghost use Rattle.eleos_core.specs.Applying.{AlwaysApplies, AlwaysIllegal};
+ghost use Rattle.eleos_core.specs.Needs.{needed};
+ghost use Rattle.eleos_core.specs.Seals.{seals_by};
+
+use crate::accesses::only_reply;
+use crate::event::{Block, Event};
+use crate::vault::{ApplyRefused, Outcome, Vault};
+use eleos_base::{Op, Part, Sealer};
+use std::alloc::Global;
+
+impl Vault {
+    /// Applies a call on memory, which is never illegal. After want of memory nothing has changed.
+    pub fn apply_call<S: Sealer>(
+        &mut self,
+        alloc: Global,
+        sealer: &S,
+        who: u32,
+        op: &Op,
+        blocks: &[Block],
+    ) -> Result<Outcome, ApplyRefused>
+        requires within { IsCaller self.old.plan who }
+        requires blocks { AreBlocks (needed self.old who (Event.Op op.now)) blocks.now }
+        ensures applied { IfOk result (λ outcome.
+            AlwaysApplies (seals_by (S.key sealer.now)) self.old who (Event.Op op.now) blocks.now
+            outcome.reply outcome.puts self.new) }
+        ensures illegal { (part : Part) → result ≡ Err (ApplyRefused.Illegal part)
+            → AlwaysIllegal (seals_by (S.key sealer.now)) self.old who (Event.Op op.now)
+            blocks.now part }
+        ensures err { OnErr result (self.new ≡ self.old) }
+    {
+        match op {
+            Op::Alloc { bytes } => {
+                let reply = self.alloc(who, *bytes)?;
+                Ok(only_reply(alloc, reply))
+            }
+            Op::Free { at } => Ok(only_reply(alloc, self.free(who, *at))),
+            Op::Share { at } => Ok(only_reply(alloc, self.share(who, *at))),
+            Op::Read { at, len } => {
+                let reply = self.read(alloc, sealer, who, *at, *len, blocks)?;
+                Ok(only_reply(alloc, reply))
+            }
+            Op::Write { at, bytes } => {
+                let outcome = self.write(alloc, sealer, who, *at, bytes.as_slice(), blocks)?;
+                Ok(outcome)
+            }
+        }
+    }
+}

@@ -1,0 +1,53 @@
+// Links on pages, applied.
+ghost use Rattle.std.specs.Prelude.{◌≡◌, ◌<◌, [], Err, IfOk, OnErr};
+ghost use Rattle.eleos_base.specs.Plans.{IsCaller};
+ghost use Rattle.eleos_core.specs.Applying.{AlwaysApplies, AlwaysIllegal};
+ghost use Rattle.eleos_core.specs.Places.{all_pages};
+ghost use Rattle.eleos_core.specs.Seals.{Seals};
+
+use crate::accesses::only_reply;
+use crate::event::Event;
+use crate::vault::{ApplyRefused, Outcome, Vault};
+use eleos_base::{Addr, Part};
+use std::alloc::Global;
+
+impl Vault {
+    /// Applies a link, to which no blocks are given.
+    pub fn apply_link(&mut self, alloc: Global, who: u32, at: Addr) -> Result<Outcome, ApplyRefused>
+        requires within { IsCaller self.old.plan who }
+        ensures applied { (x : Seals) → IfOk result (λ outcome.
+            AlwaysApplies x self.old who (Event.Link at) [] outcome.reply outcome.puts self.new) }
+        ensures illegal { (x : Seals) (part : Part) → result ≡ Err (ApplyRefused.Illegal part)
+            → AlwaysIllegal x self.old who (Event.Link at) [] part }
+        ensures err { OnErr result (self.new ≡ self.old) }
+    {
+        if let Some(part) = self.link_offence(who, at) {
+            return Err(ApplyRefused::Illegal { part });
+        }
+        let reply = self.link(who, at)?;
+        Ok(only_reply(alloc, reply))
+    }
+
+    /// Applies an unlink, to which no blocks are given.
+    pub fn apply_unlink(
+        &mut self,
+        alloc: Global,
+        who: u32,
+        page: u32,
+    ) -> Result<Outcome, ApplyRefused>
+        requires caller { IsCaller self.old.plan who }
+        requires page { page < all_pages self.old.plan }
+        ensures applied { (x : Seals) → IfOk result (λ outcome.
+            AlwaysApplies x self.old who (Event.Unlink page) [] outcome.reply outcome.puts
+            self.new) }
+        ensures illegal { (x : Seals) (part : Part) → result ≡ Err (ApplyRefused.Illegal part)
+            → AlwaysIllegal x self.old who (Event.Unlink page) [] part }
+        ensures err { OnErr result (self.new ≡ self.old) }
+    {
+        if let Some(part) = self.unlink_offence(who, page) {
+            return Err(ApplyRefused::Illegal { part });
+        }
+        let reply = self.unlink(who, page);
+        Ok(only_reply(alloc, reply))
+    }
+}

@@ -1,0 +1,61 @@
+// The machine's cells, and the links on its pages.
+ghost use Rattle.std.specs.Prelude.{◌≡◌};
+ghost use Rattle.eleos_core.specs.declared.vault.ApplyRefused.TheVariants as refusals;
+
+use crate::cells::{Alloc, Clock, Frame, Page};
+use eleos_base::{Bytes, List, NoMemory, Part, Plan, Reply};
+use std::marker::Model;
+
+/// A block for the host, and its place there.
+#[derive(Debug, Drop)]
+pub struct Put {
+    pub place: u32,
+    pub block: Bytes,
+}
+
+/// What an event brought about: its answer, and the blocks for the host in rising order of place.
+#[derive(Debug, Drop)]
+pub struct Outcome {
+    pub reply: Reply,
+    pub puts: List<Put>,
+}
+
+/// Why an event was not applied. Nothing has changed.
+#[derive(Clone, Copy, Debug, PartialEq, Eq)]
+pub enum ApplyRefused {
+    /// No entry of the event is legal now.
+    Illegal { part: Part },
+    NoMemory,
+}
+
+impl From<NoMemory> for ApplyRefused {
+    ghost from_gives = { λ _ refused. refused ≡ refusals.NoMemory };
+
+    fn from(_: NoMemory) -> Self {
+        ApplyRefused::NoMemory
+    }
+}
+
+/// The state of a machine.
+#[derive(Drop)]
+pub struct Vault {
+    pub(crate) plan: Plan,
+    /// Enclave by enclave.
+    pub(crate) live: Vec<Alloc>,
+    /// Enclave by enclave, and the pool's last.
+    pub(crate) clocks: Vec<Clock>,
+    pub(crate) pages: Vec<Page>,
+    pub(crate) frames: Vec<Frame>,
+    /// The links of each caller on each page: all pages of caller 1, then those of caller 2, and so on.
+    pub(crate) links: Vec<u64>,
+}
+
+impl Model for Vault {
+    ghost use Rattle.eleos_core.specs.Cells.{Cells, cells_of, IsVault};
+
+    ghost Value = { Cells };
+
+    ghost view = { λ v. cells_of v.plan v.live.items v.clocks.items v.pages.items v.frames.items v.links.items };
+
+    ghost invariant = { λ v. IsVault v.plan v.live.items v.clocks.items v.pages.items v.frames.items v.links.items };
+}
