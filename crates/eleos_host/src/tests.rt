@@ -5,7 +5,9 @@ ghost use Rattle.eleos_host.specs.Crossings.{placed};
 ghost use Rattle.eleos_host.specs.Stores.{put_to, swapped};
 ghost use Rattle.eleos_host.specs.Taps.{block_of};
 
-use crate::{Act, Answer, BLOCK_BITS, BLOCK_BYTES, HostHand, HostPort, Tap, ToldHost};
+use crate::{
+    Act, Answer, BLOCK_BITS, BLOCK_BYTES, HostHand, HostPort, HostSpace, SharedHost, Tap, ToldHost,
+};
 use eleos_base::Sealer;
 use std::test::Fail;
 
@@ -70,6 +72,41 @@ fn perform<H: HostHand>(host: &mut H, act: Act) -> Answer {
     Answer::Done
 }
 
+// What a port of its own gives for the place.
+fn read_from<H: HostSpace>(space: &H, place: u32) -> [u8; BLOCK_BYTES]
+    ensures { H.Port.HostPort.gave place result }
+{
+    let mut block = [0xff; BLOCK_BYTES];
+    space.port(1).get(place, &mut block);
+    block
+}
+
+// What a port of its own hands over for the place.
+fn write_to<H: HostSpace>(space: &H, place: u32, block: &[u8])
+    requires { IsBlock block.now }
+    ensures { H.Port.HostPort.took place block.now }
+{
+    space.port(0).put(place, block);
+}
+
+// Acts with their answers, and the first bytes of places 0 and 1 after each, and of place 2, which
+// isn't there. They begin as 1, 2 and 0.
+const ACTS: [(Act, Answer, [u8; 3]); 13] = [
+    (Act::Flip { place: 0, bit: 1 }, Answer::Done, [3, 2, 0]),
+    (Act::Flip { place: 0, bit: 1 }, Answer::Done, [1, 2, 0]),
+    (Act::Restore { place: 0 }, Answer::NothingKept, [1, 2, 0]),
+    (Act::Keep { place: 0 }, Answer::Done, [1, 2, 0]),
+    (Act::Swap { a: 0, b: 1 }, Answer::Done, [2, 1, 0]),
+    (Act::Restore { place: 1 }, Answer::NothingKept, [2, 1, 0]),
+    (Act::Restore { place: 0 }, Answer::Done, [1, 1, 0]),
+    (Act::Flip { place: 0, bit: 0 }, Answer::Done, [0, 1, 0]),
+    (Act::Restore { place: 0 }, Answer::Done, [1, 1, 0]),
+    (Act::Flip { place: 2, bit: 0 }, Answer::Done, [1, 1, 0]),
+    (Act::Keep { place: 2 }, Answer::Done, [1, 1, 0]),
+    (Act::Restore { place: 2 }, Answer::NothingKept, [1, 1, 0]),
+    (Act::Swap { a: 1, b: 2 }, Answer::Done, [1, 0, 0]),
+];
+
 #[test]
 fn a_told_host_changes_by_its_hand(rt: HostRuntime) -> Result<(), Fail> {
     let mut host = ToldHost::make(rt.alloc(), 2).map_err(|_| "memory")?;
@@ -77,23 +114,7 @@ fn a_told_host_changes_by_its_hand(rt: HostRuntime) -> Result<(), Fail> {
     put_and_swap(&mut host, 0, 1, &[2; BLOCK_BYTES]);
     host.put(0, &[1; BLOCK_BYTES]);
     host.put(2, &[3; BLOCK_BYTES]);
-    // The first bytes of places 0 and 1, and of place 2, which isn't there.
-    let table = [
-        (Act::Flip { place: 0, bit: 1 }, Answer::Done, [3, 2, 0]),
-        (Act::Flip { place: 0, bit: 1 }, Answer::Done, [1, 2, 0]),
-        (Act::Restore { place: 0 }, Answer::NothingKept, [1, 2, 0]),
-        (Act::Keep { place: 0 }, Answer::Done, [1, 2, 0]),
-        (Act::Swap { a: 0, b: 1 }, Answer::Done, [2, 1, 0]),
-        (Act::Restore { place: 1 }, Answer::NothingKept, [2, 1, 0]),
-        (Act::Restore { place: 0 }, Answer::Done, [1, 1, 0]),
-        (Act::Flip { place: 0, bit: 0 }, Answer::Done, [0, 1, 0]),
-        (Act::Restore { place: 0 }, Answer::Done, [1, 1, 0]),
-        (Act::Flip { place: 2, bit: 0 }, Answer::Done, [1, 1, 0]),
-        (Act::Keep { place: 2 }, Answer::Done, [1, 1, 0]),
-        (Act::Restore { place: 2 }, Answer::NothingKept, [1, 1, 0]),
-        (Act::Swap { a: 1, b: 2 }, Answer::Done, [1, 0, 0]),
-    ];
-    for (act, answer, firsts) in table {
+    for (act, answer, firsts) in ACTS {
         assert_eq!(rt; perform(&mut host, act), answer, "{act:?}");
         for (place, first) in (0u32..).zip(firsts) {
             assert_eq!(rt; read(&mut host, place)[0], first, "{place} after {act:?}");
@@ -101,6 +122,39 @@ fn a_told_host_changes_by_its_hand(rt: HostRuntime) -> Result<(), Fail> {
     }
     host.flip(0, BLOCK_BITS - 1);
     assert_eq!(rt; read(&mut host, 0)[BLOCK_BYTES - 1], 0x81, "the last bit");
+    Ok(())
+}
+
+#[test]
+fn a_shared_host_changes_by_its_hands(rt: HostRuntime) -> Result<(), Fail> {
+    let host = SharedHost::make(rt.alloc(), 2).map_err(|_| "memory")?;
+    let space = &host;
+    assert_eq!(rt; read_from(&space, 1), [0; BLOCK_BYTES], "before a put");
+    write_to(&space, 0, &[1; BLOCK_BYTES]);
+    write_to(&space, 1, &[2; BLOCK_BYTES]);
+    write_to(&space, 2, &[3; BLOCK_BYTES]);
+    for (act, answer, firsts) in ACTS {
+        assert_eq!(rt; perform(&mut space.hand(), act), answer, "{act:?}");
+        for (place, first) in (0u32..).zip(firsts) {
+            assert_eq!(rt; read_from(&space, place)[0], first, "{place} after {act:?}");
+        }
+    }
+    let mut block = [0; BLOCK_BYTES];
+    block[7] = 7;
+    block[8] = 8;
+    block[BLOCK_BYTES - 1] = 9;
+    write_to(&space, 1, &block);
+    assert_eq!(rt; read_from(&space, 1), block, "each byte in its place");
+    space.hand().flip(1, 8 * 7 + 1);
+    space.hand().flip(1, BLOCK_BITS - 1);
+    block[7] = 5;
+    block[BLOCK_BYTES - 1] = 0x89;
+    assert_eq!(rt;
+        read_from(&space, 1),
+        block,
+        "bits of the bytes at the ends"
+    );
+    assert_eq!(rt; read_from(&space, 0)[0], 1, "the place beside");
     Ok(())
 }
 

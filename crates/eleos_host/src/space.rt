@@ -1,0 +1,17 @@
+// A host that many threads reach.
+use crate::{HostHand, HostPort};
+
+/// The blocks of a host that is not trusted, as threads reach them.
+pub trait HostSpace {
+    /// One thread's way to the blocks.
+    type Port: HostPort + Send;
+
+    /// The way by which the host changes them by itself.
+    type Hand: HostHand + Send;
+
+    /// A port for the thread of this number.
+    fn port(&self, who: u32) -> Self::Port;
+
+    /// A hand of the host.
+    fn hand(&self) -> Self::Hand;
+}
