@@ -1,11 +1,10 @@
 -- An event that was made on the cells was applied after each history that they show.
-use Rattle.std.proofs.Common.{◌≡◌, ℕ, ◌≤◌, ◌<◌, List, [], ◌∷◌, length, map, Bool, true, false, if◌then◌else◌, refl, sym, ◌∙◌, subst, ap, arith}
+use Rattle.std.proofs.Common.{◌≡◌, ℕ, List, [], ◌∷◌, map, Bool, true, false, if◌then◌else◌, refl, sym, ◌∙◌, subst, ap}
 use Rattle.eleos_base.specs.declared.memory.Reply.{Reply}
 use Rattle.eleos_base.specs.declared.plan.Plan.{Plan}
 use Rattle.eleos_base.specs.Plans.{IsGood}
-use Rattle.eleos_core.specs.declared.event.Entry.{Entry}
 use Rattle.eleos_core.specs.declared.event.Event.{Event}
-use Rattle.eleos_core.specs.declared.vault.Put.{Put}
+use Rattle.eleos_core.specs.declared.machine.Put.{Put}
 use Rattle.eleos_core.specs.Applying.{Applies, Makes, Shows, parts_in, put_of, puts_in, puts_of, stamp_of, used}
 use Rattle.eleos_core.specs.Cells.{Cells}
 use Rattle.eleos_core.specs.Legal.{CoreRun, CoreStep, passes}

@@ -6,7 +6,7 @@ use Rattle.eleos_base.specs.declared.memory.Op.TheVariants.{Read, Write}
 use Rattle.eleos_base.specs.declared.memory.Reply.{Reply}
 use Rattle.eleos_base.specs.declared.plan.Plan.{Plan}
 use Rattle.eleos_core.specs.declared.event.Event.TheVariants.{Op}
-use Rattle.eleos_core.specs.declared.vault.Put.{Put}
+use Rattle.eleos_core.specs.declared.machine.Put.{Put}
 use Rattle.eleos_core.specs.Accesses.{AreBlocks, call_places, opened_places, page_for, read_stamp, refusal_on, sub_for, write_stamp}
 use Rattle.eleos_core.specs.Allots.{Allots, block_len}
 use Rattle.eleos_core.specs.Applying.{AlwaysApplies, Makes, Shows, parts_in, put_of, puts_in, stamp_of, used}

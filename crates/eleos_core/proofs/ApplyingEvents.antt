@@ -5,7 +5,7 @@ use Rattle.eleos_base.specs.declared.memory.Part.{Part as Offence}
 use Rattle.eleos_base.specs.declared.memory.Reply.{Reply}
 use Rattle.eleos_base.specs.declared.plan.Plan.{Plan}
 use Rattle.eleos_core.specs.declared.event.Event.{Event}
-use Rattle.eleos_core.specs.declared.vault.Put.{Put}
+use Rattle.eleos_core.specs.declared.machine.Put.{Put}
 use Rattle.eleos_core.specs.Accesses.{AreBlocks, opened_places, page_for, refusal_for, refusal_on}
 use Rattle.eleos_core.specs.Applying.{AlwaysApplies, AlwaysIllegal, Makes, Shows, parts_in, put_of, puts_in, stamp_of, used}
 use Rattle.eleos_core.specs.Cells.{Cells}
@@ -20,7 +20,7 @@ use Rattle.eleos_core.proofs.Applied.{applies, used_none, used_one}
 use Rattle.eleos_core.proofs.CellNumbers.{part_of_sub}
 use Rattle.eleos_core.proofs.OnParts.{cell_part, exists_of, page_here, refusal_same}
 use Rattle.eleos_core.proofs.Tests.{by_test}
-use Rattle.eleos_core.proofs.Vaults.{none_of}
+use Rattle.eleos_core.proofs.Machines.{none_of}
 
 -- an event that takes no blocks and seals none
 pub plainly_applies : (x : Seals) (old new : Cells) (who : ℕ) (event : Event) (reply : Reply) (len : ℕ) (sent : List Put)
@@ -60,7 +60,7 @@ module _ (x : Seals) (m : Cells) (past : History) (shows : Shows x past m) where
   refusal_shown who at n = ap (λ (q : Part). refusal_for m.plan who at n q) (page_shown at) ∙ refusal_same m.plan x past who at n
 
   -- the place of an access that is not refused
-  opened_shown : (who : ℕ) (at : Addr) (n : ℕ) → access_refusal m.plan past who at n ≡ None → opened_places m.plan at (page_for m at) ≡ access_places m.plan past (sub_of m.plan at)
+  pub opened_shown : (who : ℕ) (at : Addr) (n : ℕ) → access_refusal m.plan past who at n ≡ None → opened_places m.plan at (page_for m at) ≡ access_places m.plan past (sub_of m.plan at)
   opened_shown who at n free =
       let k : Plan = m.plan in
       let s : ℕ = sub_of k at in

@@ -1,5 +1,5 @@
 -- Links and unlinks, made on the cells or illegal after each history that these show.
-use Rattle.std.proofs.Common.{◌≡◌, ℕ, ◌<◌, ◌≤◌, List, [], Bool, true, false, ◌||◌, Option, Some, None, MatchOption, if◌then◌else◌, is_some, nat_le, refl, sym, subst, arith}
+use Rattle.std.proofs.Common.{◌≡◌, ℕ, ◌<◌, ◌≤◌, List, [], take, Bool, true, false, ◌||◌, Option, Some, None, MatchOption, if◌then◌else◌, is_some, nat_le, refl, sym, subst, arith}
 use Rattle.std.proofs.lemmas.Bool.{leb-false, leb-true}
 use Rattle.eleos_base.specs.declared.memory.Addr.{Addr}
 use Rattle.eleos_base.specs.declared.memory.Part.{Part as Offence}
@@ -9,12 +9,12 @@ use Rattle.eleos_base.specs.declared.memory.Reply.TheVariants.{Done}
 use Rattle.eleos_base.specs.Plans.{IsCaller}
 use Rattle.eleos_core.specs.declared.event.Entry.{Entry}
 use Rattle.eleos_core.specs.declared.event.Event.TheVariants.{Link, Unlink}
-use Rattle.eleos_core.specs.declared.vault.Put.{Put}
+use Rattle.eleos_core.specs.declared.machine.Put.{Put}
 use Rattle.eleos_core.specs.Accesses.{link_stamp, may_link, page_for, refusal_on, unlink_stamp}
-use Rattle.eleos_core.specs.Applying.{AlwaysApplies, AlwaysIllegal, Makes}
+use Rattle.eleos_core.specs.Applying.{AlwaysApplies, AlwaysIllegal, Makes, stamp_of}
 use Rattle.eleos_core.specs.Cells.{Cells, links_in}
 use Rattle.eleos_core.specs.Legal.{IsPlainly}
-use Rattle.eleos_core.specs.Parts.{MayStep, Part, block_at, frame_in, part_at, refusal_in}
+use Rattle.eleos_core.specs.Parts.{MayStep, Part, Stamp, block_at, frame_in, part_at, refusal_in}
 use Rattle.eleos_core.specs.Places.{all_pages}
 use Rattle.eleos_core.specs.Seals.{Seals}
 use Rattle.eleos_core.specs.State.{entry, links}
@@ -48,10 +48,11 @@ module _ (x : Seals) (old : Cells) (who : ℕ) where
 
   pub link_illegal : (at : Addr) (part : Offence) → Some part ≡ (if may_link old who at then None else Some Absent) → AlwaysIllegal x old who (Link at) [] part
   link_illegal at part told = λ past good run shows. record {
-    never = λ reply step.
+    never = λ count reply step.
         let barred : may_link old who at ≡ false = (forbidden (may_link old who at) Absent part told).0 in
-        let e : Entry = entry who (Link at) [] reply in
-        let may : MayStep old.plan x (link_stamp who at reply) (part_at old.plan x past) = parts_allow old.plan x past (link_stamp who at reply) good run step tt in
+        let e : Entry = entry who (Link at) (take count []) reply in
+        let d : Stamp = stamp_of who (Link at) (take count []) reply 0 in
+        let may : MayStep old.plan x d (part_at old.plan x past) = parts_allow old.plan x past d good run step tt in
         unmet (refusal_on old who at 1) (is_some (frame_in (page_for old at))) (IsPlainly e Done) (IsPlainly e) barred
         (subst (λ (q : Part). MatchOption (refusal_in old.plan who at 1 (block_at old.plan q at)) ((is_some (frame_in q) ≡ true) × IsPlainly e Done) (IsPlainly e))
         (sym (page_shown x old past shows at)) may.on_parts);
@@ -60,7 +61,7 @@ module _ (x : Seals) (old : Cells) (who : ℕ) where
 
   pub unlink_illegal : (page : ℕ) (part : Offence) → Some part ≡ (if nat_le 1 (links_in old who page) then None else Some Untied) → AlwaysIllegal x old who (Unlink page) [] part
   unlink_illegal page part told = λ past good run shows. record {
-    never = λ reply step.
+    never = λ count reply step.
         let barred : nat_le 1 (links_in old who page) ≡ false = (forbidden (nat_le 1 (links_in old who page)) Untied part told).0 in
         let linked : 1 ≤ links old.plan past who page = step.step.0 in
         let same : links_in old who page ≡ links old.plan past who page = shows.links who page step.within.0 step.within.1 in

@@ -1,5 +1,5 @@
 -- After every legal entry a page lies in a frame that its enclave owns.
-use Rattle.std.proofs.Common.{◌≡◌, ◌≢◌, ℕ, ◌==◌, ◌&&◌, List, [], ◌∷◌, Bool, true, false, Option, Some, None, if◌then◌else◌, refl, sym, ◌∙◌, ap}
+use Rattle.std.proofs.Common.{◌≡◌, ℕ, ◌==◌, ◌&&◌, List, [], ◌∷◌, Some, None, if◌then◌else◌, refl, sym, ◌∙◌, ap}
 use Rattle.std.proofs.lemmas.Bool.{eqb-true}
 use Rattle.eleos_base.specs.declared.memory.Reply.{Reply}
 use Rattle.eleos_base.specs.declared.plan.Plan.{Plan}
@@ -8,7 +8,7 @@ use Rattle.eleos_core.specs.declared.event.Event.{Event}
 use Rattle.eleos_core.specs.declared.event.Event.TheVariants.{Fill, Evict, Move}
 use Rattle.eleos_core.specs.Laws.{PagesAtHome}
 use Rattle.eleos_core.specs.Legal.{CoreRun, CoreStep}
-use Rattle.eleos_core.specs.Places.{Owner, home_of}
+use Rattle.eleos_core.specs.Places.{home_of}
 use Rattle.eleos_core.specs.Seals.{Seals}
 use Rattle.eleos_core.specs.State.{History, entry, frame, owner}
 use Rattle.eleos_core.proofs.Tests.{by_test, second_of}

@@ -1,4 +1,4 @@
--- A fill on the cells of a vault.
+-- A fill on the cells of a core.
 use Rattle.std.proofs.Common.{◌≡◌, ℕ, ◌+◌, ◌<◌, List, length, take, slice_index_or, slice_set, Option, Some, None, refl, sym, subst, ◌∙◌, ap, arith}
 use Rattle.std.specs.List.{AllByRecursion}
 use Rattle.std.proofs.lemmas.List.Elements.{All-from_recursion, All-weaker, recursion_from_All}
@@ -12,7 +12,7 @@ use Rattle.eleos_core.specs.declared.cells.page.Page.{Page}
 use Rattle.eleos_core.specs.declared.cells.page.Present.{Present}
 use Rattle.eleos_core.specs.declared.cells.sub_page.SubPage.{SubPage}
 use Rattle.eleos_core.specs.Applying.{Makes, parts_in}
-use Rattle.eleos_core.specs.Cells.{Cells, IsPage, IsPresent, IsSubPage, IsUse, IsVault, cells_of, frame_of_page, holder_of_use, part_of_frame, part_of_page}
+use Rattle.eleos_core.specs.Cells.{Cells, IsPage, IsPresent, IsSubPage, IsUse, IsCore, cells_of, frame_of_page, holder_of_use, part_of_frame, part_of_page}
 use Rattle.eleos_core.specs.Fills.{AreFit, CanFillIn, IsFree, IsJudged, fill_stamp, page_in, sealed_places}
 use Rattle.eleos_core.specs.Legal.{IsActor}
 use Rattle.eleos_core.specs.Parts.{frame_cell, frame_in, holder_in, page_cell, part_after, the_frame, the_page}
@@ -42,20 +42,20 @@ use_among p n (Lent page) inside kept = omega arith
 sub_clean : (wear : ℕ) (o : Option Present) (u : SubPage) → IsSubPage wear None u → IsSubPage wear o u
 sub_clean wear o u kept = record { version = kept.version; below = kept.below; dirty = λ dirty. absurd (let wrong = kept.dirty dirty in cc) }
 
-module _ (k : Plan) (live : List (List Live)) (clocks : List (List ℕ)) (pages : List Page) (frames : List Frame) (links : List ℕ) (vault : IsVault k live clocks pages frames links)
+module _ (k : Plan) (live : List (List Live)) (clocks : List (List ℕ)) (pages : List Page) (frames : List Frame) (links : List ℕ) (core : IsCore k live clocks pages frames links)
     (p f : ℕ) (page : Page) (frame : Frame) (page_exists : p < all_pages k) (frame_exists : f < all_frames k) (page_is : page ≡ slice_index_or pages p page) (frame_is : frame ≡ slice_index_or frames f frame)
     (legal : CanFillIn (cells_of k live clocks pages frames links) p f) where
   abbrev old_cells : Cells
   old_cells = cells_of k live clocks pages frames links
 
   is_page : IsPage k.wear (all_frames k) page
-  is_page = page_kept k live clocks pages frames links vault p page_exists page page_is
+  is_page = page_kept k live clocks pages frames links core p page_exists page page_is
 
   page_was : parts_in old_cells (page_cell k p) ≡ part_of_page page
-  page_was = page_part_is k live clocks pages frames links vault p page_exists page page_is
+  page_was = page_part_is k live clocks pages frames links core p page_exists page page_is
 
   frame_was : parts_in old_cells (frame_cell k f) ≡ part_of_frame frame
-  frame_was = frame_part_is k live clocks pages frames links vault f frame_exists frame frame_is
+  frame_was = frame_part_is k live clocks pages frames links core f frame_exists frame frame_is
 
   pub fill_whole : length page.subs.items ≡ 4
   fill_whole = is_page.whole
@@ -64,7 +64,7 @@ module _ (k : Plan) (live : List (List Live)) (clocks : List (List ℕ)) (pages 
   fill_absent = is_absent page.present (ap frame_in (sym page_was) ∙ legal.absent)
 
   pub fill_free : IsFree frame.used
-  fill_free = is_free (all_pages k) frame.used (frame_kept k live clocks pages frames links vault f frame_exists frame frame_is) (ap holder_in (sym frame_was) ∙ legal.free)
+  fill_free = is_free (all_pages k) frame.used (frame_kept k live clocks pages frames links core f frame_exists frame frame_is) (ap holder_in (sym frame_was) ∙ legal.free)
 
   pub fill_fit : (cs : List (List ℕ)) → AreFit (sealed_places p (page_in old_cells p)) cs → AreFit (sealed_places p (part_of_page page)) cs
   fill_fit cs fit = subst (λ q. AreFit (sealed_places p q) cs) page_was fit
@@ -87,7 +87,7 @@ module _ (k : Plan) (live : List (List Live)) (clocks : List (List ℕ)) (pages 
         → part_of_page page' ≡ part_after k x (fill_stamp who p f (take count cs) reply) (the_page p) (part_of_page page)
         → part_of_frame frame' ≡ part_after k x (fill_stamp who p f (take count cs) reply) (the_frame f) (part_of_frame frame)
         → Makes x (fill_stamp who p f (take count cs) reply) old_cells (cells_of k live clocks (slice_set pages p page') (slice_set frames f frame') links)
-    fill_made page' frame' who actor page_made frame_made = makes_both k live clocks pages frames links vault p page' f frame' page_exists frame_exists x (fill_stamp who p f (take count cs) reply) refl
+    fill_made page' frame' who actor page_made frame_made = makes_both k live clocks pages frames links core p page' f frame' page_exists frame_exists x (fill_stamp who p f (take count cs) reply) refl
         (record { within = (actor, page_exists, frame_exists); on_parts = (legal.absent, legal.free, legal.at_home, fill_judged.reply_by) })
         (page_made ∙ ap (part_after k x (fill_stamp who p f (take count cs) reply) (the_page p)) (sym page_was))
         (frame_made ∙ ap (part_after k x (fill_stamp who p f (take count cs) reply) (the_frame f)) (sym frame_was))

@@ -14,7 +14,7 @@ use Rattle.eleos_core.specs.declared.cells.page.Present.{Present}
 use Rattle.eleos_core.specs.declared.cells.sub_page.SubPage.{SubPage}
 use Rattle.eleos_core.specs.declared.event.Event.TheVariants.{Evict}
 use Rattle.eleos_core.specs.Applying.{Makes, page_puts, parts_in, puts_from, puts_in}
-use Rattle.eleos_core.specs.Cells.{Cells, IsPage, IsPresent, IsSubPage, IsUse, IsVault, cells_of, frame_of_page, holder_of_use, part_of_frame, part_of_page, part_with, piece, sub_parts}
+use Rattle.eleos_core.specs.Cells.{Cells, IsPage, IsPresent, IsSubPage, IsUse, IsCore, cells_of, frame_of_page, holder_of_use, part_of_frame, part_of_page, part_with, piece, sub_parts}
 use Rattle.eleos_core.specs.Evicts.{CanLeave, HasBytes, evict_stamp, sealed_blocks, sealed_sub}
 use Rattle.eleos_core.specs.Legal.{IsActor}
 use Rattle.eleos_core.specs.Parts.{SubPart, frame_cell, frame_in, frame_part, page_cell, page_part, part_after, sub_after, subs_in, the_frame, the_page}
@@ -121,20 +121,20 @@ subs_gone x wear f s (Some present) None old new in_frame gone made each = (
       ∙ (ap length made ∙ (length-map_from (sealed_sub x) s (parts_with present.bytes.items old) ∙ length-map_from (λ i u. part_with u (piece i present.bytes.items)) 0 old)),
 )
 
--- an evict on the cells of a vault
-module _ (k : Plan) (live : List (List Live)) (clocks : List (List ℕ)) (pages : List Page) (frames : List Frame) (links : List ℕ) (vault : IsVault k live clocks pages frames links)
+-- an evict on the cells of a core
+module _ (k : Plan) (live : List (List Live)) (clocks : List (List ℕ)) (pages : List Page) (frames : List Frame) (links : List ℕ) (core : IsCore k live clocks pages frames links)
     (p f : ℕ) (page : Page) (frame : Frame) (page_exists : p < all_pages k) (frame_exists : f < all_frames k) (page_is : page ≡ slice_index_or pages p page) (frame_is : frame ≡ slice_index_or frames f frame) where
   abbrev old_cells : Cells
   old_cells = cells_of k live clocks pages frames links
 
   is_page : IsPage k.wear (all_frames k) page
-  is_page = page_kept k live clocks pages frames links vault p page_exists page page_is
+  is_page = page_kept k live clocks pages frames links core p page_exists page page_is
 
   page_was : parts_in old_cells (page_cell k p) ≡ part_of_page page
-  page_was = page_part_is k live clocks pages frames links vault p page_exists page page_is
+  page_was = page_part_is k live clocks pages frames links core p page_exists page page_is
 
   frame_was : parts_in old_cells (frame_cell k f) ≡ part_of_frame frame
-  frame_was = frame_part_is k live clocks pages frames links vault f frame_exists frame frame_is
+  frame_was = frame_part_is k live clocks pages frames links core f frame_exists frame frame_is
 
   module _ (present : frame_in (parts_in old_cells (page_cell k p)) ≡ Some f) where
     in_frame : frame_of_page page.present ≡ Some f
@@ -144,7 +144,7 @@ module _ (k : Plan) (live : List (List Live)) (clocks : List (List ℕ)) (pages 
     can_leave = record {
       whole = is_page.whole;
       bytes = has_bytes (all_frames k) f page.present in_frame is_page.present;
-      versions = All-weaker (IsSubPage k.wear page.present) (λ (u : SubPage). u.version ≤ 2 ^ 63) (λ u is. let most = is.version in let wear = vault.good.wear in omega arith)
+      versions = All-weaker (IsSubPage k.wear page.present) (λ (u : SubPage). u.version ≤ 2 ^ 63) (λ u is. let most = is.version in let wear = core.good.wear in omega arith)
           page.subs.items (All-from_recursion (IsSubPage k.wear page.present) page.subs.items is_page.each);
     }
 
@@ -157,7 +157,7 @@ module _ (k : Plan) (live : List (List Live)) (clocks : List (List ℕ)) (pages 
           record { whole = subs.1 ∙ is_page.whole; present = in_none (all_frames k) page'.present gone; each = subs.0 }
 
       pub evict_made : (who : ℕ) → IsActor k who → Makes x (evict_stamp who p f) old_cells (cells_of k live clocks (slice_set pages p page') (slice_set frames f frame') links)
-      evict_made who actor = makes_both k live clocks pages frames links vault p page' f frame' page_exists frame_exists x (evict_stamp who p f) refl
+      evict_made who actor = makes_both k live clocks pages frames links core p page' f frame' page_exists frame_exists x (evict_stamp who p f) refl
           (record { within = (actor, page_exists, frame_exists); on_parts = (present, record { reply_is = refl; no_block = refl }) })
           (page_made ∙ (page_evicted k x who p f (subs_in (part_of_page page)) whole
           ∙ (ap (λ o. part_after k x (evict_stamp who p f) (the_page p) (page_part o (subs_in (part_of_page page)))) (sym in_frame)

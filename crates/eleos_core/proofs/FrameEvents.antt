@@ -5,19 +5,18 @@ use Rattle.eleos_base.specs.declared.memory.Part.TheVariants.{Present, Frame, Ab
 use Rattle.eleos_base.specs.declared.memory.Reply.{Reply}
 use Rattle.eleos_base.specs.declared.memory.Reply.TheVariants.{Done}
 use Rattle.eleos_core.specs.declared.event.Event.TheVariants.{Fill, Evict, Move}
-use Rattle.eleos_core.specs.declared.vault.Put.{Put}
-use Rattle.eleos_core.specs.Applying.{AlwaysApplies, AlwaysIllegal, Makes, parts_in, put_of, puts_in, stamp_of, used}
+use Rattle.eleos_core.specs.declared.machine.Put.{Put}
+use Rattle.eleos_core.specs.Applying.{AlwaysApplies, AlwaysIllegal, Makes, parts_in, put_of, puts_in, stamp_of}
 use Rattle.eleos_core.specs.Cells.{Cells, links_in}
 use Rattle.eleos_core.specs.Evicts.{evict_stamp}
 use Rattle.eleos_core.specs.Fills.{CanFillIn, IsJudged, fill_stamp, page_in, the_frame_in}
-use Rattle.eleos_core.specs.Legal.{passes}
 use Rattle.eleos_core.specs.Moves.{CanMoveIn, move_stamp}
 use Rattle.eleos_core.specs.Offences.{CanEvictIn, OffendsEvict, OffendsFill, OffendsMove}
 use Rattle.eleos_core.specs.Parts.{frame_in, owner_in}
 use Rattle.eleos_core.specs.Places as places
 use Rattle.eleos_core.specs.Places.{all_frames, all_pages}
 use Rattle.eleos_core.specs.Seals.{Seals}
-use Rattle.eleos_core.specs.State.{History, frame, is_owner, owner, page_places}
+use Rattle.eleos_core.specs.State.{History, frame, is_owner, owner}
 use Rattle.eleos_core.proofs.Applied.{applies}
 use Rattle.eleos_core.proofs.Shares.{owner_is, same_owner}
 use Rattle.eleos_core.proofs.ShownParts.{frame_shown, may_of, owner_shown, unlinked_shown, used_shown}
@@ -55,8 +54,8 @@ module _ (x : Seals) (old : Cells) where
 
   pub fill_illegal : (who p f : ℕ) (given : List (List ℕ)) (part : Offence) → p < all_pages old.plan → OffendsFill old p f part → AlwaysIllegal x old who (Fill p f) given part
   fill_illegal who p f given part inside offends past good run shows = record {
-    never = λ reply step.
-        let may = may_of x old past shows (stamp_of who (Fill p f) (used (passes old.plan x past) (page_places old.plan past p) given) reply 0) good run step tt in
+    never = λ count reply step.
+        let may = may_of x old past shows (stamp_of who (Fill p f) (take count given) reply 0) good run step tt in
         cannot_fill p f part offends (record { absent = may.on_parts.0; free = may.on_parts.1; at_home = may.on_parts.2 });
     part_is = fill_part past p f part (frame_shown x old past shows p inside) offends;
   }
@@ -80,7 +79,7 @@ module _ (x : Seals) (old : Cells) where
   pub evict_illegal : (who p f : ℕ) (part : Offence) → p < all_pages old.plan → OffendsEvict old p f part → AlwaysIllegal x old who (Evict p f) [] part
   evict_illegal who p f part inside offends past good run shows =
       let here : frame_in (page_in old p) ≡ frame past p = frame_shown x old past shows p inside in record {
-        never = λ reply step. cannot_evict p f part offends (record {
+        never = λ count reply step. cannot_evict p f part offends (record {
           present = here ∙ step.step.0.present;
           unlinked = λ by caller. shows.links by p caller inside ∙ step.step.0.no_link by;
         });
@@ -104,8 +103,8 @@ module _ (x : Seals) (old : Cells) where
 
   pub move_illegal : (who f : ℕ) (from to : places.Owner) (part : Offence) → f < all_frames old.plan → OffendsMove old f from part → AlwaysIllegal x old who (Move f from to) [] part
   move_illegal who f from to part inside offends past good run shows = record {
-    never = λ reply step.
-        let may = may_of x old past shows (stamp_of who (Move f from to) [] reply 0) good run step tt in
+    never = λ count reply step.
+        let may = may_of x old past shows (stamp_of who (Move f from to) (take count []) reply 0) good run step tt in
         cannot_move f from part offends (record { owned = may.on_parts.0; free = may.on_parts.1 });
     part_is = move_part past f from part (owner_shown x old past shows f inside) offends;
   }

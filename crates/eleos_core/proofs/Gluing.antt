@@ -1,24 +1,22 @@
 -- What cells are after an entry that was made on them is what the longer history made of them.
-use Rattle.std.proofs.Common.{◌≡◌, ◌≢◌, ℕ, ◌≤◌, ◌<◌, List, [], ◌∷◌, refl, sym, ◌∙◌, subst, ap, inl, inr, ◌⊎◌, ⊎_elim}
+use Rattle.std.proofs.Common.{◌≡◌, ℕ, ◌<◌, List, [], ◌∷◌, sym, ◌∙◌, subst, ap, inl, inr, ◌⊎◌, ⊎_elim}
 use mathlib.Core.Logic.{dite}
 use native.Mathlib.Decide.{ℕ_discrete}
-use Rattle.eleos_base.specs.declared.memory.Addr.{Addr}
 use Rattle.eleos_base.specs.declared.memory.Op.{Op as Calls}
 use Rattle.eleos_base.specs.declared.memory.Op.TheVariants.{Alloc, Free, Share, Read, Write}
 use Rattle.eleos_base.specs.declared.plan.Plan.{Plan}
 use Rattle.eleos_base.specs.Plans.{IsCaller, IsGood, enclave_of}
 use Rattle.eleos_base.specs.Ties.{Has}
-use Rattle.eleos_core.specs.declared.event.Entry.{Entry}
 use Rattle.eleos_core.specs.declared.event.Event.{Event}
 use Rattle.eleos_core.specs.declared.event.Event.TheVariants.{Op, Link, Unlink, Fill, Evict, Move, Starved, Spoiled, Survey}
 use Rattle.eleos_core.specs.Applying.{Makes, Shows, parts_in}
 use Rattle.eleos_core.specs.Cells.{Cells, links_in}
 use Rattle.eleos_core.specs.Legal.{CoreRun, CoreStep, IsWithin}
 use Rattle.eleos_core.specs.PartLaws.{IsLenOf, LinksAllow, PartsFollow}
-use Rattle.eleos_core.specs.Parts.{Part, Stamp, MayStep, CallOn, EventOn, after_at, alloc_cell, cell_of, foot, len_at, live_in, part_at, part_of}
+use Rattle.eleos_core.specs.Parts.{Part, Stamp, MayStep, CallOn, EventOn, after_at, foot, len_at, live_in, part_at, part_of}
 use Rattle.eleos_core.specs.Places.{all_pages}
 use Rattle.eleos_core.specs.Seals.{Seals}
-use Rattle.eleos_core.specs.State.{History, links, links_by, live}
+use Rattle.eleos_core.specs.State.{History, links, links_by}
 use Rattle.eleos_core.proofs.Judging.{parts_judge}
 use Rattle.eleos_core.proofs.KeepingUp.{keep_up}
 use Rattle.eleos_core.proofs.Numbers.{caller_home}

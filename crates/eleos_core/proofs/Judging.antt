@@ -50,7 +50,7 @@ module _ (k : Plan) (x : Seals) (past : History) where
       (same_at (λ (text : List ℕ). ByBlocks (verdict k x past e.event blocks) (answer text) reply) (found_on (cell_part k x past p)) (found k x e past s) texts)) in
       (λ _ h. both.0 h, λ _ h. both.1 h)
 
-  worn_here : (s : ℕ) → page_of k s < all_pages k → is_worn_in k (sub_in k (subs_in (cell_part k x past (page_of k s))) s) ≡ is_worn k past s
+  pub worn_here : (s : ℕ) → page_of k s < all_pages k → is_worn_in k (sub_in k (subs_in (cell_part k x past (page_of k s))) s) ≡ is_worn k past s
   worn_here s exists = ap (λ (q : Part). is_worn_in k (sub_in k (subs_in q) s)) (page_here k x past (page_of k s) exists) ∙ ap (λ (u : SubPart). is_worn_in k u) (part_of_sub k x past s)
 
   write_agrees : (who : ℕ) (at : Addr) (new : List ℕ) (blocks : List (List ℕ)) (reply : Reply) (len : ℕ) → Agrees who (Op (Write at new)) blocks reply len

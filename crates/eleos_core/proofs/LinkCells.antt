@@ -13,7 +13,7 @@ use Rattle.eleos_base.specs.Ties.{Has}
 use Rattle.eleos_core.specs.declared.cells.page.Page.{Page}
 use Rattle.eleos_core.specs.declared.accesses.spots.Spot.{Spot}
 use Rattle.eleos_core.specs.declared.cells.page.Present.{Present}
-use Rattle.eleos_core.specs.declared.vault.Vault.TheInside.{Inside}
+use Rattle.eleos_core.specs.declared.machine.Core.TheInside.{Inside}
 use Rattle.std.proofs.lemmas.List.{get_or_read}
 use Rattle.std.specs.Vec.{with_item}
 use Rattle.eleos_core.specs.Accesses.{link_stamp, may_link, page_for, refusal_on, unlink_stamp}
@@ -26,9 +26,9 @@ use Rattle.eleos_core.proofs.AccessParts.{legal_by, link-kept, refused_by}
 use Rattle.eleos_core.proofs.Sets.{set_links}
 use Rattle.eleos_core.proofs.Spots.{page_inside, range_is}
 use Rattle.eleos_core.proofs.Tests.{both_of, by_test, first_of, second_of}
-use Rattle.eleos_core.proofs.VaultAccesses.{refusal-refuses}
-use Rattle.eleos_core.proofs.VaultCells.{makes-kept, touched}
-use Rattle.eleos_core.proofs.Vaults.{Holds, IsFound, IsThere, caller_there, page_there, page_within, refusal_there, view_of}
+use Rattle.eleos_core.proofs.MachineAccesses.{refusal-refuses}
+use Rattle.eleos_core.proofs.MachineCells.{makes-kept, touched}
+use Rattle.eleos_core.proofs.Machines.{Holds, IsFound, IsThere, caller_there, page_there, page_within, refusal_there, view_of}
 
 -- a machine has at most 4,096 pages
 pub all_pages-le : (k : Plan) → IsGood k → all_pages k ≤ 4096
@@ -79,8 +79,8 @@ may_link-found s m view who at spot page f accepted = subst (λ (c : Cells). may
     framed None = refl
     framed (Some p) = refl
 
--- what a link makes of the cells that a vault is seen as
-module _ (s : Inside) (m : Cells) (view : view_of s ≡ m) (vault : Holds s) (x : Seals) (who : ℕ) (is_caller : IsCaller m.plan who) where
+-- what a link makes of the cells that a core is seen as
+module _ (s : Inside) (m : Cells) (view : view_of s ≡ m) (core : Holds s) (x : Seals) (who : ℕ) (is_caller : IsCaller m.plan who) where
   abbrev k : Plan
   k = s.plan
 
@@ -92,8 +92,8 @@ module _ (s : Inside) (m : Cells) (view : view_of s ≡ m) (vault : Holds s) (x 
 
   -- the cell of the page of an address that a link touches is left as it was
   link_touched : (at : Addr) (reply : Reply) (c : ℕ) → Has c (foot k (link_stamp who at reply)) → parts_in old c ≡ after_at k x (link_stamp who at reply) (parts_in old) c
-  link_touched at reply = touched k x (link_stamp who at reply) (parts_in old) who at 1 refl (λ range. page_inside k who at 1 vault.good caller (range_is k who at 1 range))
-      (λ range. let there = page_there s who at 1 vault caller range in
+  link_touched at reply = touched k x (link_stamp who at reply) (parts_in old) who at 1 refl (λ range. page_inside k who at 1 core.good caller (range_is k who at 1 range))
+      (λ range. let there = page_there s who at 1 core caller range in
       subst (λ q. q ≡ page_after k x (link_stamp who at reply) (page_of k (sub_of k at)) (frame_in q) (subs_in q)) (sym there.1) (link-kept k x who at there.0 reply (page_of k (sub_of k at))))
 
   -- a refused link
@@ -110,9 +110,9 @@ module _ (s : Inside) (m : Cells) (view : view_of s ≡ m) (vault : Holds s) (x 
   -- where the caller's links on the page of the address stand
   pub link_index : (p i : ℕ) → p < all_pages k → i ≡ (who - 1) * vec_len s.pages + p → (i ≡ (who - 1) * all_pages k + p) × (i < length s.links.items) × (i < vec_len s.links)
   link_index p i small is =
-      let place : i ≡ (who - 1) * all_pages k + p = is ∙ ap (λ n. (who - 1) * n + p) (s.pages.ok.0 ∙ vault.pages_are) in
+      let place : i ≡ (who - 1) * all_pages k + p = is ∙ ap (λ n. (who - 1) * n + p) (s.pages.ok.0 ∙ core.pages_are) in
       let within = place_small k who p caller small in
-      let all = vault.links_are in
+      let all = core.links_are in
       let long = s.links.ok.0 in (place, omega arith, omega arith)
 
   -- and how many they are
@@ -132,7 +132,7 @@ module _ (s : Inside) (m : Cells) (view : view_of s ≡ m) (vault : Holds s) (x 
       let index = link_index p i small is in
       let here : is_some (frame_in (page_for old at)) ≡ true = sym (ap (λ o. is_some o || is_some (frame_in (page_for old at))) none) ∙ may in
       let count : v ≡ links_in old who p = get_or_read s.links.items i v index.1 value 0 ∙ ap (slice_index s.links.items) index.0 in
-      let changed = links-changed old (λ n. n + 1) who p (v + 1) caller small vault.links_are (ap (λ n. n + 1) count) in
+      let changed = links-changed old (λ n. n + 1) who p (v + 1) caller small core.links_are (ap (λ n. n + 1) count) in
       subst (λ j. Makes x (link_stamp who at Done) old (record old { links = slice_set s.links.items j (v + 1) })) (sym index.0)
       (makes-kept x (link_stamp who at Done) old (record old { links = slice_set s.links.items ((who - 1) * all_pages k + p) (v + 1) }) refl (set_links old (slice_set s.links.items ((who - 1) * all_pages k + p) (v + 1)))
       (record { within = caller; on_parts = legal_by (refusal_on old who at 1) _ _ none (here, record { reply_is = refl; no_block = refl }) })
@@ -157,4 +157,4 @@ module _ (s : Inside) (m : Cells) (view : view_of s ≡ m) (vault : Holds s) (x 
       (makes-kept x (unlink_stamp who p Done) old (record old { links = slice_set s.links.items ((who - 1) * all_pages k + p) (v - 1) }) refl (set_links old (slice_set s.links.items ((who - 1) * all_pages k + p) (v - 1)))
       (record { within = (caller, small); on_parts = record { reply_is = refl; no_block = refl } })
       (λ c none. absurd none)
-      (links-changed old (λ n. n - 1) who p (v - 1) caller small vault.links_are (ap (λ n. n - 1) count))))
+      (links-changed old (λ n. n - 1) who p (v - 1) caller small core.links_are (ap (λ n. n - 1) count))))

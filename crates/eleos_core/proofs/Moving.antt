@@ -1,4 +1,4 @@
--- A move on the cells of a vault.
+-- A move on the cells of a core.
 use Rattle.std.proofs.Common.{◌≡◌, ◌≢◌, ℕ, ◌+◌, ◌<◌, ◌≤◌, ◌==◌, ◌++◌, List, [], ◌∷◌, length, filter, not, cond, slice_index_or, slice_set, Bool, true, false, Some, None, if◌then◌else◌, refl, sym, subst, ◌∙◌, ap, inl, inr, arith, eq-eqb, get_or-set_other}
 use Rattle.std.proofs.lemmas.List.{get_or_default, length-set}
 use Rattle.eleos_base.specs.declared.memory.Live.{Live}
@@ -7,14 +7,14 @@ use Rattle.eleos_base.specs.Ties.{Has}
 use Rattle.eleos_core.specs.declared.cells.frame.Frame.{Frame}
 use Rattle.eleos_core.specs.declared.cells.page.Page.{Page}
 use Rattle.eleos_core.specs.Applying.{Makes, parts_in}
-use Rattle.eleos_core.specs.Cells.{Cells, IsVault, cells_of, holder_of_use, part_of_frame}
+use Rattle.eleos_core.specs.Cells.{Cells, IsCore, cells_of, holder_of_use, part_of_frame}
 use Rattle.eleos_core.specs.Legal.{IsActor, IsOwner, OneIsPool}
 use Rattle.eleos_core.specs.Moves.{CanMoveIn, move_stamp}
 use Rattle.eleos_core.specs.Parts.{after_at, clock_cell, clock_part, frame_cell, frame_part, part_after, the_clock, the_frame}
 use Rattle.eleos_core.specs.Places.{Owner, all_frames}
 use Rattle.eleos_core.specs.Seals.{Seals}
 use Rattle.eleos_core.specs.State.{is_owner}
-use Rattle.eleos_core.proofs.Sets.{AreWhole, at_other, at_same, cell_of-clock, cell_of-frame, clock_at, clock_place, frame_not_clock, map_frame, pool_not_clock, set_clock, set_frame, vault_whole, whole_clock}
+use Rattle.eleos_core.proofs.Sets.{AreWhole, at_other, at_same, cell_of-clock, cell_of-frame, clock_at, clock_place, frame_not_clock, map_frame, pool_not_clock, set_clock, set_frame, core_whole, whole_clock}
 use Rattle.eleos_core.proofs.TwoCells.{frame_part_is}
 
 -- the place of an owner's clock
@@ -49,7 +49,7 @@ same_owner : (owner : Owner) → is_owner owner owner ≡ true
 same_owner None = refl
 same_owner (Some e) = eq-eqb e e refl
 
-module _ (k : Plan) (live : List (List Live)) (clocks : List (List ℕ)) (pages : List Page) (frames : List Frame) (links : List ℕ) (vault : IsVault k live clocks pages frames links)
+module _ (k : Plan) (live : List (List Live)) (clocks : List (List ℕ)) (pages : List Page) (frames : List Frame) (links : List ℕ) (core : IsCore k live clocks pages frames links)
     (f : ℕ) (from to : Owner) (exists : f < all_frames k) (from_is : IsOwner k from) (to_is : IsOwner k to) (one : OneIsPool from to) where
   abbrev old_cells : Cells
   old_cells = cells_of k live clocks pages frames links
@@ -76,7 +76,7 @@ module _ (k : Plan) (live : List (List Live)) (clocks : List (List ℕ)) (pages 
       → was_from ≡ slice_index_or (slice_set clocks joined now_to) left was_from → now_from ≡ filter (λ other. not (other == f)) was_from
       → slice_set (slice_set clocks joined now_to) left now_from ≡ new_clocks
   lists_moved joined left was_to now_to was_from now_from joined_is left_is was_to_is now_to_is was_from_is now_from_is =
-      let owners = vault.owners in
+      let owners = core.owners in
       let to_place : joined ≡ clock_place k to = place_is k to joined joined_is in
       let from_place : left ≡ clock_place k from = place_is k from left left_is in
       let to_inside = place_inside k to to_is in
@@ -96,7 +96,7 @@ module _ (k : Plan) (live : List (List Live)) (clocks : List (List ℕ)) (pages 
     -- the part of each cell
     moved : (c : ℕ) → parts_in new_cells c ≡ cond (c == frame_cell k f) (part_of_frame frame') (cond (c == clock_cell k from) (clock_part left_list) (cond (c == clock_cell k to) (clock_part joined_list) (parts_in old_cells c)))
     moved c =
-        let whole : AreWhole old_cells = vault_whole k live clocks pages frames links vault in
+        let whole : AreWhole old_cells = core_whole k live clocks pages frames links core in
         let one_set : Cells = record old_cells { clocks = slice_set clocks (clock_place k to) joined_list } in
         let whole_one : AreWhole one_set = whole_clock old_cells (clock_place k to) joined_list whole in
         let both_set : Cells = record one_set { clocks = new_clocks } in
@@ -114,7 +114,7 @@ module _ (k : Plan) (live : List (List Live)) (clocks : List (List ℕ)) (pages 
         ∙ ap (λ was. cond (c == frame_cell k f) (part_of_frame frame') (cond (c == clock_cell k from) (clock_part left_list) was)) (set_clock old_cells to joined_list c whole to_is)))
 
     frame_was : parts_in old_cells (frame_cell k f) ≡ part_of_frame frame
-    frame_was = frame_part_is k live clocks pages frames links vault f exists frame frame_is
+    frame_was = frame_part_is k live clocks pages frames links core f exists frame frame_is
 
     pub move_made : (x : Seals) (who : ℕ) → IsActor k who → CanMoveIn old_cells f from → Makes x (move_stamp who f from to) old_cells new_cells
     move_made x who actor legal = record {

@@ -1,5 +1,5 @@
 -- The places of a page's sealed sub-pages, one sub-page after another.
-use Rattle.std.proofs.Common.{◌≡◌, ℕ, zero, suc, ◌+◌, ◌<◌, ◌≤◌, List, [], ◌∷◌, ◌++◌, length, map, take, Bool, true, false, Option, Some, None, is_some, if◌then◌else◌, slice_index_or, refl, sym, ◌∙◌, ap, subst, arith}
+use Rattle.std.proofs.Common.{◌≡◌, ℕ, zero, suc, ◌+◌, ◌<◌, ◌≤◌, List, [], ◌∷◌, ◌++◌, length, map, take, Bool, true, false, Option, Some, None, is_some, if◌then◌else◌, slice_index_or, refl, sym, ◌∙◌, ap, arith}
 use Rattle.eleos_core.specs.declared.cells.sub_page.SubPage.{SubPage}
 use Rattle.eleos_base.specs.Lists.{map_from}
 use Rattle.eleos_core.specs.declared.cells.page.Present.{Present}

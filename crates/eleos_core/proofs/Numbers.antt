@@ -4,6 +4,7 @@ use mathlib.Core.Logic.{dite}
 use native.Mathlib.Decide.{ℕ_discrete}
 use Rattle.std.specs.List.{range_with_len}
 use Rattle.std.proofs.lemmas.Bool.Decides.{nat_tests}
+use Rattle.std.proofs.lemmas.Grind.{div_ceil_times}
 use Rattle.std.proofs.lemmas.List.Sums.{sum_by-cons}
 use Rattle.std.proofs.lemmas.List.Elements.{All-get_or}
 use Rattle.eleos_base.specs.declared.memory.Addr.{Addr}
@@ -16,8 +17,11 @@ use Rattle.eleos_core.specs.Runs.{first_of_run, run_with}
 use Rattle.eleos_core.specs.Places.{all_pages, first_sub, home_of, is_sub_of, page_counts, page_of, per_page, sub_of, subs}
 use Rattle.eleos_base.specs.Ties.{Has}
 use Rattle.eleos_core.specs.Parts.{home_of_sub, pages_of_run}
-use Rattle.eleos_core.proofs.Memories.{some_subs}
 use Rattle.eleos_core.proofs.Tests.{by_test}
+
+-- some bytes take some sub-pages
+pub some_subs : (bytes len : ℕ) → len ≡ subs_for 1024 bytes → 1 ≤ bytes → 1 ≤ len
+some_subs bytes len is some = omega (arith, div_ceil_times bytes 1024 (omega arith))
 
 -- runs of numbers that follow each other
 sum_cons : (n : ℕ) (ns : List ℕ) → sum (n ∷ ns) ≡ n + sum ns

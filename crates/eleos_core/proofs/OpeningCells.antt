@@ -9,7 +9,7 @@ use Rattle.eleos_base.specs.Plans.{IsGood}
 use Rattle.eleos_core.specs.declared.cells.frame.Frame.{Frame}
 use Rattle.eleos_core.specs.declared.cells.page.Page.{Page}
 use Rattle.eleos_core.specs.Applying.{Shows}
-use Rattle.eleos_core.specs.Cells.{IsVault, cells_of, part_in, part_of_frame, part_of_page}
+use Rattle.eleos_core.specs.Cells.{IsCore, cells_of, part_in, part_of_frame, part_of_page}
 use Rattle.eleos_core.specs.Opening.{AreFrames, ArePages, opening_clocks, opening_frame, opening_lives, opening_page}
 use Rattle.eleos_core.specs.Order.{AreInOrder}
 use Rattle.eleos_core.specs.Parts.{alloc_part, clock_part, no_part, part_of}
@@ -71,8 +71,8 @@ module _ (k : Plan) (lives : List (List Live)) (clocks : List (List ℕ)) (pages
   }
 
   -- and keep to what holds of all cells
-  pub vault_opening : IsGood k → IsVault k lives clocks pages frames links
-  vault_opening good = record {
+  pub core_opening : IsGood k → IsCore k lives clocks pages frames links
+  core_opening good = record {
     good = good;
     enclaves = ap length opening.lives_are ∙ length-map-range_with_len (live k []) 0 (length k.enclaves);
     in_order = λ e exists. subst (AreInOrder 0 (subs k e)) (sym (live_at e exists)) (in_order k (seals_by []) (none_empty k good) [] tt e exists);

@@ -16,7 +16,7 @@ use Rattle.eleos_core.specs.declared.cells.page.Page.{Page}
 use Rattle.eleos_core.specs.declared.cells.page.Present.{Present}
 use Rattle.eleos_core.specs.declared.cells.sub_page.SubPage.{SubPage}
 use Rattle.eleos_core.specs.declared.event.Entry.{Entry}
-use Rattle.eleos_core.specs.declared.vault.Put.{Put}
+use Rattle.eleos_core.specs.declared.machine.Put.{Put}
 use Rattle.eleos_core.specs.Accesses.{AreBlocks, IsOpened, IsResealed, IsSpot, ReadsPage, WritesPage, block_places, judged_sub, opened_places, opened_sub, read_stamp, refusal_for, resealed, rewritten_places, sub_for, with_bytes, write_stamp}
 use Rattle.eleos_core.specs.Applying.{page_puts, put_of}
 use Rattle.eleos_core.specs.Cells.{IsPage, IsPresent, IsSubPage, frame_of_page, part_of_page, part_with, piece, sub_parts, subs_per_page}

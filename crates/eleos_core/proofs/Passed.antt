@@ -16,7 +16,7 @@ here c x a b e = ap (λ (t : Bool). if t then a else b) (eq-eqb c x e)
 pub apart : {A : Type 0} (c x : ℕ) (a b : A) → c ≢ x → (if c == x then a else b) ≡ b
 apart c x a b ne = ap (λ (t : Bool). if t then a else b) (ne_eqb c x ne)
 
-failed_not : (s : ℕ) (cs : List (List ℕ)) → failed_last s cs ≡ passed → ⊥
+pub failed_not : (s : ℕ) (cs : List (List ℕ)) → failed_last s cs ≡ passed → ⊥
 failed_not s [] e = cc
 failed_not s (c ∷ cs) e = cc
 

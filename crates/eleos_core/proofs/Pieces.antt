@@ -5,7 +5,7 @@ use Rattle.std.proofs.lemmas.List.{append_assoc, append-nil, length-map, map_pus
 use Rattle.eleos_base.specs.Lists.{map_from}
 use Rattle.eleos_core.specs.declared.cells.page.Present.{Present}
 use Rattle.eleos_core.specs.declared.cells.sub_page.SubPage.{SubPage}
-use Rattle.eleos_core.specs.declared.vault.Put.{Put}
+use Rattle.eleos_core.specs.declared.machine.Put.{Put}
 use Rattle.eleos_core.specs.Applying.{put_of}
 use Rattle.eleos_core.specs.Cells.{part_with, piece, sub_parts}
 use Rattle.eleos_core.specs.Evicts.{sealed_block, sealed_blocks, sealed_sub}

@@ -20,7 +20,7 @@ use Rattle.eleos_core.specs.declared.event.Wanted.{Wanted}
 use Rattle.eleos_core.specs.declared.fills.opening.Spoiled.{Spoiled}
 use Rattle.eleos_core.specs.Accesses.{IsSpot}
 use Rattle.eleos_core.specs.Applying.{Makes}
-use Rattle.eleos_core.specs.Cells.{Cells, IsVault, cells_of, frame_of_page, sub_parts}
+use Rattle.eleos_core.specs.Cells.{Cells, IsCore, cells_of, frame_of_page, sub_parts}
 use Rattle.eleos_core.specs.Fills.{AreFit, IsJudged, absent_page, sealed_places}
 use Rattle.eleos_core.specs.Legal.{ByBlocks, Judged, failed, passed, unfit}
 use Rattle.eleos_core.specs.Parts.{Part, frame_in, page_part, verdict_in}
@@ -56,13 +56,13 @@ by_done passed told = refl
 by_done (failed t) told = absurd (cc)
 by_done unfit told = absurd told
 
-module _ (k : Plan) (live : List (List Live)) (clocks : List (List ℕ)) (pages : List Page) (frames : List Frame) (links : List ℕ) (vault : IsVault k live clocks pages frames links) where
+module _ (k : Plan) (live : List (List Live)) (clocks : List (List ℕ)) (pages : List Page) (frames : List Frame) (links : List ℕ) (core : IsCore k live clocks pages frames links) where
   abbrev cells : Cells
   cells = cells_of k live clocks pages frames links
 
   -- the refusal for want of a frame
   pub starved_makes : (x : Seals) (who : ℕ) (wanted : Wanted) (sweep : List Looked) → IsCaller k who → IsStarving cells who wanted sweep → Makes x (starved_stamp who wanted sweep (NoFrame sweep)) cells cells
-  starved_makes x who wanted sweep caller starving = quiet_makes k live clocks pages frames links vault x who (Starved wanted sweep) [] (NoFrame sweep) 0 tt (record {
+  starved_makes x who wanted sweep caller starving = quiet_makes k live clocks pages frames links core x who (Starved wanted sweep) [] (NoFrame sweep) 0 tt (record {
     within = (caller, starving.waiting.may.needs);
     on_parts = (record { not_refused = starving.waiting.may.not_refused; absent = starving.waiting.absent }, starving.taken, record { reply_is = refl; no_block = refl });
   })
@@ -70,7 +70,7 @@ module _ (k : Plan) (live : List (List Live)) (clocks : List (List ℕ)) (pages 
   -- the refusal for a block that does not pass
   spoiled_makes : (x : Seals) (who : ℕ) (wanted : Wanted) (given : List (List ℕ)) (found : Spoiled) → IsCaller k who → IsWaiting cells who wanted → IsSpoiledAt cells x wanted given found
       → Makes x (spoiled_stamp who wanted (take found.used given) (Tampered found.place)) cells cells
-  spoiled_makes x who wanted given found caller waiting spoiled = quiet_makes k live clocks pages frames links vault x who (SpoiledPage wanted) (take found.used given) (Tampered found.place) 0 tt (record {
+  spoiled_makes x who wanted given found caller waiting spoiled = quiet_makes k live clocks pages frames links core x who (SpoiledPage wanted) (take found.used given) (Tampered found.place) 0 tt (record {
     within = (caller, waiting.may.needs);
     on_parts = (record { not_refused = waiting.may.not_refused; absent = waiting.absent }, found.place, spoiled.fails, refl);
   })
@@ -78,11 +78,11 @@ module _ (k : Plan) (live : List (List Live)) (clocks : List (List ℕ)) (pages 
   module _ (wanted : Wanted) (spot : Spot) (page : Page) (is : IsSpot k (address_of wanted) spot) (inside : wanted_page cells wanted < all_pages k) (absent : frame_in (wanted_part cells wanted) ≡ None)
       (value : page ≡ slice_index_or pages spot.page page) where
     page_small : spot.page < length pages
-    page_small = let here = is.page in let all = vault.pages_are in omega arith
+    page_small = let here = is.page in let all = core.pages_are in omega arith
 
     -- the page of what is wanted has no bytes
     part_is : wanted_part cells wanted ≡ absent_page page.subs.items
-    part_is = let there : wanted_part cells wanted ≡ page_part (frame_of_page page.present) (sub_parts page.subs.items page.present) = page_for-there k live clocks pages frames links vault (address_of wanted) spot page is page_small value in
+    part_is = let there : wanted_part cells wanted ≡ page_part (frame_of_page page.present) (sub_parts page.subs.items page.present) = page_for-there k live clocks pages frames links core (address_of wanted) spot page is page_small value in
         there ∙ absent_is page.subs.items page.present (sym (ap frame_in there) ∙ absent)
 
     fit_there : (given : List (List ℕ)) → AreFit (wanted_places cells wanted) given → AreFit (sealed_places spot.page (absent_page page.subs.items)) given

@@ -16,7 +16,7 @@ use Rattle.eleos_core.specs.declared.event.Event.{Event}
 use Rattle.eleos_core.specs.declared.event.Event.TheVariants.{Starved, Spoiled, Survey}
 use Rattle.eleos_core.specs.declared.event.Goal.{Goal}
 use Rattle.eleos_core.specs.Applying.{Makes, parts_in, stamp_of}
-use Rattle.eleos_core.specs.Cells.{Cells, IsVault, cells_of, frame_of_page, part_in, part_of_frame, part_of_page, part_with, sub_parts}
+use Rattle.eleos_core.specs.Cells.{Cells, IsCore, cells_of, frame_of_page, part_in, part_of_frame, part_of_page, part_with, sub_parts}
 use Rattle.eleos_core.specs.Legal.{IsActor, IsOwner}
 use Rattle.eleos_core.specs.Parts.{Cell, MayStep, Part, Stamp, SubPart, alloc_part, cell_of, clock_part, frame_part, list_in, no_cell, no_part, page_after, page_part, part_after, places_in, sub_after, the_alloc, the_clock, the_frame, the_page}
 use Rattle.eleos_core.specs.Places.{Owner, per_page}
@@ -114,8 +114,8 @@ pub some_item : {A : Type 0} (xs : List A) (i : ℕ) → i < length xs → A
 some_item [] i inside = absurd (omega arith)
 some_item (x ∷ xs) i inside = x
 
--- in a vault each cell has such a part, so a quiet event may leave it as it is
-module _ (k : Plan) (live : List (List Live)) (clocks : List (List ℕ)) (pages : List Page) (frames : List Frame) (links : List ℕ) (vault : IsVault k live clocks pages frames links) where
+-- in a core each cell has such a part, so a quiet event may leave it as it is
+module _ (k : Plan) (live : List (List Live)) (clocks : List (List ℕ)) (pages : List Page) (frames : List Frame) (links : List ℕ) (core : IsCore k live clocks pages frames links) where
   abbrev cells : Cells
   cells = cells_of k live clocks pages frames links
 
@@ -124,10 +124,10 @@ module _ (k : Plan) (live : List (List Live)) (clocks : List (List ℕ)) (pages 
       (λ h. tt)
       (λ e h is. tt)
       (λ is. tt)
-      (λ p h is. let small : p < length pages = (let all = vault.pages_are in omega arith) in
+      (λ p h is. let small : p < length pages = (let all = core.pages_are in omega arith) in
       subst (Fits (the_page p)) (sym (get_or-map part_of_page pages p (some_item pages p small) no_part small))
       (let page : Page = slice_index_or pages p (some_item pages p small) in page_fits p page.subs.items page.present))
-      (λ f h is. let small : f < length frames = (let all = vault.frames_are in omega arith) in
+      (λ f h is. let small : f < length frames = (let all = core.frames_are in omega arith) in
       subst (Fits (the_frame f)) (sym (get_or-map part_of_frame frames f (some_item frames f small) no_part small)) tt)
       (λ h. tt)
 
@@ -146,8 +146,8 @@ module _ (k : Plan) (live : List (List Live)) (clocks : List (List ℕ)) (pages 
   owned owner fs inside is = get_or_read clocks (clock_place k owner) fs (short owner inside) is [] ∙ sym (ap list_in (clock_at cells owner inside))
     where
       short : (owner : Owner) → IsOwner k owner → clock_place k owner < length clocks
-      short (Some e) inside = let all = vault.owners in omega arith
-      short None inside = let all = vault.owners in omega arith
+      short (Some e) inside = let all = core.owners in omega arith
+      short None inside = let all = core.owners in omega arith
 
   module _ (e : ℕ) (goal : Goal) (sweep : List Looked) (own pool : List ℕ) (found : Option Reply) (inside : e < length k.enclaves)
       (own_is : own ≡ slice_index_or clocks e own) (pool_is : pool ≡ slice_index_or clocks (length k.enclaves) pool) (only : IsTheReply (SurveyReply own pool goal sweep) found) where

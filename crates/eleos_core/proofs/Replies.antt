@@ -1,5 +1,5 @@
 -- What a legal entry says where it was accepted.
-use Rattle.std.proofs.Common.{◌≡◌, ℕ, ◌/◌, ◌==◌, ◌||◌, List, Bool, true, false, Option, Some, None, MatchOption, MatchBool, if◌then◌else◌, refl, ◌∙◌, ap}
+use Rattle.std.proofs.Common.{◌≡◌, ℕ, ◌/◌, ◌==◌, ◌||◌, List, Bool, true, false, Option, Some, None, MatchOption, MatchBool, if◌then◌else◌, refl, ◌∙◌, ap, subst}
 use Rattle.std.specs.List.{find}
 use Rattle.eleos_base.specs.declared.memory.Addr.{Addr}
 use Rattle.eleos_base.specs.declared.memory.Live.{Live}
@@ -26,6 +26,9 @@ use_refuses who (Some block) = by_owner (block.is_shared || block.owner == who)
     by_owner : (b : Bool) → IsRefusal (if b then None else Some (NotYours block.owner))
     by_owner true = tt
     by_owner false = refl
+
+pub use_refusal-refuses : (who : ℕ) (block : Option Live) (reply : Reply) → use_refusal who block ≡ Some reply → is_accepted reply ≡ false
+use_refusal-refuses who block reply is = subst IsRefusal is (use_refuses who block)
 
 range_refuses : (b : Bool) (o : Option Reply) → IsRefusal o → IsRefusal (if b then o else Some BadRange)
 range_refuses true o h = h

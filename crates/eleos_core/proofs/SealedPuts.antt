@@ -1,8 +1,7 @@
 -- The blocks that an entry seals, by the parts of its page and by the history.
-use Rattle.std.proofs.Common.{◌≡◌, ◌≢◌, ℕ, zero, suc, ◌+◌, ◌-◌, ◌*◌, ◌/◌, ◌<◌, ◌≤◌, ◌==◌, List, [], ◌∷◌, ◌++◌, length, map, filter, Bool, true, false, not, ◌&&◌, ◌||◌, Option, Some, None, is_some, MatchOption, if◌then◌else◌, refl, sym, ◌∙◌, subst, ap, arith}
+use Rattle.std.proofs.Common.{◌≡◌, ℕ, zero, suc, ◌+◌, ◌-◌, ◌*◌, ◌/◌, ◌<◌, ◌≤◌, ◌==◌, List, [], ◌∷◌, ◌++◌, length, map, filter, Bool, true, false, not, ◌&&◌, ◌||◌, Option, is_some, if◌then◌else◌, refl, sym, ◌∙◌, subst, ap, arith}
 use Rattle.std.specs.List.{range_with_len}
-use Rattle.std.proofs.lemmas.Bool.{eqb-true, ne_eqb}
-use Rattle.eleos_base.specs.declared.memory.Addr.{Addr}
+use Rattle.std.proofs.lemmas.Bool.{eqb-true}
 use Rattle.eleos_base.specs.declared.memory.Op.{Op as Calls}
 use Rattle.eleos_base.specs.declared.memory.Op.TheVariants.{Alloc, Free, Share, Read, Write}
 use Rattle.eleos_base.specs.declared.memory.Reply.{Reply}
@@ -23,7 +22,7 @@ use Rattle.eleos_core.proofs.Numbers.{page_within}
 use Rattle.eleos_core.proofs.OnParts.{exists_of, page_here}
 use Rattle.eleos_core.proofs.Replies.{access_refuses, write_accepted}
 use Rattle.eleos_core.proofs.SubParts.{opened_write, written, writes_no_other}
-use Rattle.eleos_core.proofs.Tests.{by_test, first_of, second_of}
+use Rattle.eleos_core.proofs.Tests.{by_test, first_of}
 
 -- lists over ranges
 range_parts : (a m n : ℕ) → range_with_len a (m + n) ≡ range_with_len a m ++ range_with_len (a + m) n

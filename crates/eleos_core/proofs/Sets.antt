@@ -7,7 +7,7 @@ use Rattle.eleos_base.specs.declared.plan.Plan.{Plan}
 use Rattle.eleos_core.specs.declared.cells.frame.Frame.{Frame}
 use Rattle.eleos_core.specs.declared.cells.page.Page.{Page}
 use Rattle.eleos_core.specs.Applying.{parts_in}
-use Rattle.eleos_core.specs.Cells.{Cells, IsVault, cells_of, part_in, part_of_frame, part_of_page}
+use Rattle.eleos_core.specs.Cells.{Cells, IsCore, cells_of, part_in, part_of_frame, part_of_page}
 use Rattle.eleos_core.specs.Legal.{IsOwner}
 use Rattle.eleos_core.specs.Parts.{Cell, Part, alloc_cell, alloc_part, cell_of, clock_cell, clock_part, frame_cell, later_cell, no_cell, no_part, page_cell, the_alloc, the_clock, the_frame, the_page}
 use Rattle.eleos_core.specs.Places.{Owner, all_frames, all_pages}
@@ -130,14 +130,14 @@ pub record AreWhole (m : Cells) : Type 0 where
   pub pages : length m.pages ≡ all_pages m.plan
   pub frames : length m.frames ≡ all_frames m.plan
 
--- so it is in a vault
-pub vault_whole : (k : Plan) (live : List (List Live)) (clocks : List (List ℕ)) (pages : List Page) (frames : List Frame) (links : List ℕ)
-    → IsVault k live clocks pages frames links → AreWhole (cells_of k live clocks pages frames links)
-vault_whole k live clocks pages frames links vault = record {
-  live = vault.enclaves;
-  clocks = vault.owners;
-  pages = length-map pages part_of_page ∙ vault.pages_are;
-  frames = length-map frames part_of_frame ∙ vault.frames_are;
+-- so it is in a core
+pub core_whole : (k : Plan) (live : List (List Live)) (clocks : List (List ℕ)) (pages : List Page) (frames : List Frame) (links : List ℕ)
+    → IsCore k live clocks pages frames links → AreWhole (cells_of k live clocks pages frames links)
+core_whole k live clocks pages frames links core = record {
+  live = core.enclaves;
+  clocks = core.owners;
+  pages = length-map pages part_of_page ∙ core.pages_are;
+  frames = length-map frames part_of_frame ∙ core.frames_are;
 }
 
 -- and after one cell is set

@@ -1,5 +1,5 @@
 -- What the cells tell of a history that they show.
-use Rattle.std.proofs.Common.{◌≡◌, ℕ, ◌<◌, ◌≤◌, ◌==◌, ◌&&◌, List, [], ◌∷◌, Bool, true, false, Option, Some, None, is_some, inl, inr, ◌⊎◌, if◌then◌else◌, refl, sym, ◌∙◌, subst, ap, length, arith}
+use Rattle.std.proofs.Common.{◌≡◌, ℕ, ◌*◌, ◌<◌, ◌≤◌, ◌==◌, ◌&&◌, List, [], ◌∷◌, Bool, true, false, Option, Some, None, is_some, inl, inr, ◌⊎◌, if◌then◌else◌, refl, sym, ◌∙◌, subst, ap, length, arith}
 use Rattle.std.proofs.lemmas.Bool.{cases_lt, ne_eqb}
 use Rattle.eleos_base.specs.declared.memory.Addr.{Addr}
 use Rattle.eleos_base.specs.declared.memory.Reply.{Reply}
@@ -16,11 +16,11 @@ use Rattle.eleos_core.specs.Legal.{CoreRun, CoreStep, passes}
 use Rattle.eleos_core.specs.Offences.{IsUnlinked}
 use Rattle.eleos_core.specs.PartLaws.{IsLenOf}
 use Rattle.eleos_core.specs.Parts.{MayStep, Part, Stamp, clock_cell, frame_cell, frame_in, list_in, owner_in, page_cell, part_at, part_of, passes_in, subs_in}
-use Rattle.eleos_core.specs.Places.{all_frames, all_pages, page_of, sub_of}
+use Rattle.eleos_core.specs.Places.{all_frames, all_pages, page_of, per_page, sub_of}
 use Rattle.eleos_core.specs.Quiet.{frames_of_owner}
 use Rattle.eleos_core.specs.Seals.{Seals}
 use Rattle.eleos_core.specs.State.{History, entry, frame, frame_by, frames_of, is_present, links, owner, page_places}
-use Rattle.eleos_core.proofs.CellNumbers.{enclave_clock_is}
+use Rattle.eleos_core.proofs.CellNumbers.{enclave_clock_is, sealed_are}
 use Rattle.eleos_core.proofs.Judging.{parts_allow}
 use Rattle.eleos_core.proofs.OnParts.{owner_here, page, page_here}
 use Rattle.eleos_core.proofs.Sets.{by_number}
@@ -74,6 +74,10 @@ module _ (x : Seals) (old : Cells) (past : History) (shows : Shows x past old) w
   -- a page and a frame of the machine
   page_shown : (p : ℕ) → p < all_pages old.plan → page_in old p ≡ page old.plan x past p
   page_shown p inside = shows.parts (page_cell old.plan p) ∙ page_here old.plan x past p inside
+
+  -- the places of its blocks
+  pub places_shown : (p : ℕ) → p < all_pages old.plan → sealed_places p (page_in old p) ≡ page_places old.plan past p
+  places_shown p inside = ap (λ (q : Part). sealed_places p q) (page_shown p inside) ∙ sealed_are old.plan x past (p * per_page old.plan) (per_page old.plan)
 
   pub frame_shown : (p : ℕ) → p < all_pages old.plan → frame_in (page_in old p) ≡ frame past p
   frame_shown p inside = ap (λ (q : Part). frame_in q) (page_shown p inside)

@@ -1,12 +1,12 @@
 -- Who is no caller links no page.
-use Rattle.std.proofs.Common.{◌≡◌, ℕ, ◌+◌, ◌-◌, ◌==◌, ◌&&◌, List, [], ◌∷◌, Bool, true, false, if◌then◌else◌, refl, sym, ◌∙◌, subst, ap, arith}
+use Rattle.std.proofs.Common.{◌≡◌, ℕ, ◌+◌, ◌-◌, ◌==◌, ◌&&◌, List, [], ◌∷◌, Bool, true, false, if◌then◌else◌, refl, sym, subst}
 use Rattle.std.proofs.lemmas.Bool.{eqb-true}
 use Rattle.eleos_base.specs.declared.memory.Reply.{Reply}
 use Rattle.eleos_base.specs.declared.plan.Plan.{Plan}
 use Rattle.eleos_base.specs.Plain.{is_accepted}
 use Rattle.eleos_base.specs.Plans.{IsCaller}
 use Rattle.eleos_core.specs.declared.event.Event.{Event}
-use Rattle.eleos_core.specs.declared.event.Event.TheVariants.{Op, Link, Unlink, Fill, Evict, Move, Starved, Spoiled, Survey}
+use Rattle.eleos_core.specs.declared.event.Event.TheVariants.{Link, Unlink}
 use Rattle.eleos_core.specs.Legal.{CoreRun, CoreStep}
 use Rattle.eleos_core.specs.Places.{page_of, sub_of}
 use Rattle.eleos_core.specs.Seals.{Seals}

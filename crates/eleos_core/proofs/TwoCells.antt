@@ -9,45 +9,45 @@ use Rattle.eleos_base.specs.Ties.{Has}
 use Rattle.eleos_core.specs.declared.cells.frame.Frame.{Frame}
 use Rattle.eleos_core.specs.declared.cells.page.Page.{Page}
 use Rattle.eleos_core.specs.Applying.{Makes, parts_in}
-use Rattle.eleos_core.specs.Cells.{Cells, IsPage, IsUse, IsVault, cells_of, part_of_frame, part_of_page}
+use Rattle.eleos_core.specs.Cells.{Cells, IsPage, IsUse, IsCore, cells_of, part_of_frame, part_of_page}
 use Rattle.eleos_core.specs.Parts.{MayStep, Stamp, after_at, foot, frame_cell, no_part, page_cell, part_after, the_frame, the_page}
 use Rattle.eleos_core.specs.Places.{all_frames, all_pages}
 use Rattle.eleos_core.specs.Seals.{Seals}
 use Rattle.eleos_core.specs.State.{links_by}
-use Rattle.eleos_core.proofs.Sets.{AreWhole, at_other, at_same, cell_of-frame, cell_of-page, frame_at, map_frame, map_page, page_at, page_not_frame, set_frame, set_page, vault_whole, whole_page}
+use Rattle.eleos_core.proofs.Sets.{AreWhole, at_other, at_same, cell_of-frame, cell_of-page, frame_at, map_frame, map_page, page_at, page_not_frame, set_frame, set_page, core_whole, whole_page}
 
 -- what holds of each item still does after one is set
 pub recursion-set : {A : Type 0} (P : A → Type 0) (xs : List A) (i : ℕ) (x : A) → P x → AllByRecursion P xs → AllByRecursion P (slice_set xs i x)
 recursion-set P xs i x here each = recursion_from_All P (slice_set xs i x) (All-set P xs i x here (All-from_recursion P xs each))
 
-module _ (k : Plan) (live : List (List Live)) (clocks : List (List ℕ)) (pages : List Page) (frames : List Frame) (links : List ℕ) (vault : IsVault k live clocks pages frames links) where
-  -- the cells of a vault, and those after a page and a frame are set
+module _ (k : Plan) (live : List (List Live)) (clocks : List (List ℕ)) (pages : List Page) (frames : List Frame) (links : List ℕ) (core : IsCore k live clocks pages frames links) where
+  -- the cells of a core, and those after a page and a frame are set
   abbrev before : Cells
   before = cells_of k live clocks pages frames links
 
   abbrev with_both : ℕ → Page → ℕ → Frame → Cells
   with_both p page f frame = cells_of k live clocks (slice_set pages p page) (slice_set frames f frame) links
 
-  -- they are a vault's
-  pub vault_with_both : (p : ℕ) (page : Page) (f : ℕ) (frame : Frame) → IsPage k.wear (all_frames k) page → IsUse (all_pages k) frame.used
-      → IsVault k live clocks (slice_set pages p page) (slice_set frames f frame) links
-  vault_with_both p page f frame page_is frame_is = record {
-    good = vault.good;
-    enclaves = vault.enclaves;
-    in_order = vault.in_order;
-    owners = vault.owners;
-    pages_are = length-set pages p page ∙ vault.pages_are;
-    each_page = recursion-set (IsPage k.wear (all_frames k)) pages p page page_is vault.each_page;
-    frames_are = length-set frames f frame ∙ vault.frames_are;
-    each_frame = recursion-set (λ (other : Frame). IsUse (all_pages k) other.used) frames f frame frame_is vault.each_frame;
-    links_are = vault.links_are;
+  -- they are a core's
+  pub core_with_both : (p : ℕ) (page : Page) (f : ℕ) (frame : Frame) → IsPage k.wear (all_frames k) page → IsUse (all_pages k) frame.used
+      → IsCore k live clocks (slice_set pages p page) (slice_set frames f frame) links
+  core_with_both p page f frame page_is frame_is = record {
+    good = core.good;
+    enclaves = core.enclaves;
+    in_order = core.in_order;
+    owners = core.owners;
+    pages_are = length-set pages p page ∙ core.pages_are;
+    each_page = recursion-set (IsPage k.wear (all_frames k)) pages p page page_is core.each_page;
+    frames_are = length-set frames f frame ∙ core.frames_are;
+    each_frame = recursion-set (λ (other : Frame). IsUse (all_pages k) other.used) frames f frame frame_is core.each_frame;
+    links_are = core.links_are;
   }
 
   module _ (p : ℕ) (page : Page) (f : ℕ) (frame : Frame) (page_exists : p < all_pages k) (frame_exists : f < all_frames k) where
     -- the part of each cell
     both_set : (c : ℕ) → parts_in (with_both p page f frame) c ≡ cond (c == frame_cell k f) (part_of_frame frame) (cond (c == page_cell k p) (part_of_page page) (parts_in before c))
     both_set c =
-        let whole : AreWhole before = vault_whole k live clocks pages frames links vault in
+        let whole : AreWhole before = core_whole k live clocks pages frames links core in
         let one : Cells = record before { pages = slice_set before.pages p (part_of_page page) } in
         let paged : parts_in one c ≡ cond (c == page_cell k p) (part_of_page page) (parts_in before c) = set_page before p (part_of_page page) c whole page_exists in
         let same : with_both p page f frame ≡ record one { frames = slice_set one.frames f (part_of_frame frame) } = λ t. record {
@@ -86,13 +86,13 @@ module _ (k : Plan) (live : List (List Live)) (clocks : List (List ℕ)) (pages 
             ∙ (frame_is ∙ ap (λ cell. part_after k x d cell (parts_in before (frame_cell k f))) (sym (cell_of-frame k f frame_exists)))))
         at_foot c (inr (inr none)) = absurd none
 
-  -- what is known of a page of the vault, where this is it in memory
+  -- what is known of a page of the core, where this is it in memory
   module _ (p : ℕ) (exists : p < all_pages k) (page : Page) (page_is : page ≡ slice_index_or pages p page) where
     page_inside : p < length pages
-    page_inside = let same = vault.pages_are in omega arith
+    page_inside = let same = core.pages_are in omega arith
 
     pub page_kept : IsPage k.wear (all_frames k) page
-    page_kept = subst (IsPage k.wear (all_frames k)) (sym page_is) (All-get_or (IsPage k.wear (all_frames k)) pages p page page_inside (All-from_recursion (IsPage k.wear (all_frames k)) pages vault.each_page))
+    page_kept = subst (IsPage k.wear (all_frames k)) (sym page_is) (All-get_or (IsPage k.wear (all_frames k)) pages p page page_inside (All-from_recursion (IsPage k.wear (all_frames k)) pages core.each_page))
 
     pub page_part_is : parts_in before (page_cell k p) ≡ part_of_page page
     page_part_is = page_at before p exists ∙ (get_or-map part_of_page pages p page no_part page_inside ∙ ap part_of_page (sym page_is))
@@ -100,11 +100,11 @@ module _ (k : Plan) (live : List (List Live)) (clocks : List (List ℕ)) (pages 
   -- and of a frame
   module _ (f : ℕ) (exists : f < all_frames k) (frame : Frame) (frame_is : frame ≡ slice_index_or frames f frame) where
     frame_inside : f < length frames
-    frame_inside = let same = vault.frames_are in omega arith
+    frame_inside = let same = core.frames_are in omega arith
 
     pub frame_kept : IsUse (all_pages k) frame.used
     frame_kept = subst (λ (other : Frame). IsUse (all_pages k) other.used) (sym frame_is)
-        (All-get_or (λ (other : Frame). IsUse (all_pages k) other.used) frames f frame frame_inside (All-from_recursion (λ (other : Frame). IsUse (all_pages k) other.used) frames vault.each_frame))
+        (All-get_or (λ (other : Frame). IsUse (all_pages k) other.used) frames f frame frame_inside (All-from_recursion (λ (other : Frame). IsUse (all_pages k) other.used) frames core.each_frame))
 
     pub frame_part_is : parts_in before (frame_cell k f) ≡ part_of_frame frame
     frame_part_is = frame_at before f exists ∙ (get_or-map part_of_frame frames f frame no_part frame_inside ∙ ap part_of_frame (sym frame_is))

@@ -18,15 +18,15 @@ use Rattle.eleos_core.specs.declared.event.Goal.{Goal}
 use Rattle.eleos_core.specs.declared.event.Wanted.{Wanted}
 use Rattle.eleos_core.specs.declared.event.Wanted.TheVariants.{Link as ALink, Op as ACall}
 use Rattle.eleos_core.specs.declared.fills.opening.Spoiled.{Spoiled}
-use Rattle.eleos_core.specs.Applying.{AlwaysApplies, AlwaysIllegal, Makes, parts_in, stamp_of, used}
+use Rattle.eleos_core.specs.Applying.{AlwaysApplies, AlwaysIllegal, Makes, stamp_of}
 use Rattle.eleos_core.specs.Cells.{Cells}
 use Rattle.eleos_core.specs.Laws.{share}
-use Rattle.eleos_core.specs.Legal.{CoreRun, NeedsFrame, passes}
-use Rattle.eleos_core.specs.Parts.{MayStep, Part, block_at, refusal_in, wanted_refusal_in}
+use Rattle.eleos_core.specs.Legal.{CoreRun, NeedsFrame}
+use Rattle.eleos_core.specs.Parts.{Part, block_at, refusal_in, wanted_refusal_in}
 use Rattle.eleos_core.specs.Places.{all_pages, page_of, sub_of, subs}
 use Rattle.eleos_core.specs.Quiet.{AllPass, IsSpoiledAt, IsStarving, IsSurveyed, IsWaiting, frames_of_owner, spoiled_stamp, starved_stamp, survey_stamp, waiting_fault, wanted_page, wanted_part}
 use Rattle.eleos_core.specs.Seals.{Seals}
-use Rattle.eleos_core.specs.State.{History, address_of, frames_of, page_places}
+use Rattle.eleos_core.specs.State.{History, address_of, frames_of}
 use Rattle.eleos_core.proofs.Applied.{applies}
 use Rattle.eleos_core.proofs.Numbers.{in_range_of, page_exists, sub_in_range}
 use Rattle.eleos_core.proofs.PlaceNumbers.{most_frames}
@@ -85,7 +85,7 @@ module _ (x : Seals) (old : Cells) where
 
   pub starved_illegal : (who : ℕ) (wanted : Wanted) (sweep : List Looked) (part : Offence) → (IsStarving old who wanted sweep → ⊥) → part ≡ waiting_fault old wanted → AlwaysIllegal x old who (Starved wanted sweep) [] part
   starved_illegal who wanted sweep part fed fault past good run shows = record {
-    never = λ reply step. fed (starving_of old x who reply 0 wanted sweep [] (may_of x old past shows (stamp_of who (Starved wanted sweep) [] reply 0) good run step tt));
+    never = λ count reply step. fed (starving_of old x who reply 0 wanted sweep (take count []) (may_of x old past shows (stamp_of who (Starved wanted sweep) (take count []) reply 0) good run step tt));
     part_is = fault ∙ ap (λ v. if v then Present else Frame) (present_shown x old past shows run (address_of wanted));
   }
 
@@ -103,20 +103,14 @@ module _ (x : Seals) (old : Cells) where
 
   pub waiting_illegal : (who : ℕ) (wanted : Wanted) (given : List (List ℕ)) (part : Offence) → (IsWaiting old who wanted → ⊥) → part ≡ waiting_fault old wanted → AlwaysIllegal x old who (SpoiledPage wanted) given part
   waiting_illegal who wanted given part served fault past good run shows = record {
-    never = λ reply step.
-        let blocks : List (List ℕ) = used (passes old.plan x past) (page_places old.plan past (wanted_page old wanted)) given in
-        served (waiting_of old x who reply 0 wanted blocks (may_of x old past shows (stamp_of who (SpoiledPage wanted) blocks reply 0) good run step tt));
+    never = λ count reply step. served (waiting_of old x who reply 0 wanted (take count given) (may_of x old past shows (stamp_of who (SpoiledPage wanted) (take count given) reply 0) good run step tt));
     part_is = fault ∙ ap (λ v. if v then Present else Frame) (present_shown x old past shows run (address_of wanted));
   }
 
   pub passed_illegal : (who : ℕ) (wanted : Wanted) (given : List (List ℕ)) (found : Option Spoiled) → found ≡ None → IsWaiting old who wanted → IfNone found (AllPass old x wanted given) → AlwaysIllegal x old who (SpoiledPage wanted) given Frame
   passed_illegal who wanted given found is waiting all past good run shows = record {
-    never = λ reply step.
-        let p : ℕ = wanted_page old wanted in
-        let blocks : List (List ℕ) = used (passes old.plan x past) (page_places old.plan past p) given in
-        spoiled_never old x who reply 0 wanted given (none_said (AllPass old x wanted given) found is all)
-        (subst (λ (bs : List (List ℕ)). MayStep old.plan x (stamp_of who (SpoiledPage wanted) bs reply 0) (parts_in old)) (sym (used_shown x old past shows p given (waits_there old who wanted waiting)))
-        (may_of x old past shows (stamp_of who (SpoiledPage wanted) blocks reply 0) good run step tt));
+    never = λ count reply step. spoiled_never old x who reply 0 wanted given (none_said (AllPass old x wanted given) found is all) count
+        (may_of x old past shows (stamp_of who (SpoiledPage wanted) (take count given) reply 0) good run step tt);
     part_is = ap (λ v. if v then Present else Frame) (sym waiting.absent ∙ present_shown x old past shows run (address_of wanted));
   }
 
@@ -128,8 +122,8 @@ module _ (x : Seals) (old : Cells) where
 
   pub survey_illegal : (who e : ℕ) (goal : Goal) (sweep : List Looked) → e < length old.plan.enclaves → (found : Option Reply) → found ≡ None → IsSurveyed old e goal sweep found → AlwaysIllegal x old who (Survey e goal sweep) [] Frame
   survey_illegal who e goal sweep inside found is surveyed past good run shows = record {
-    never = λ reply step.
+    never = λ count reply step.
         let few : length (frames_of_owner old (Some e)) < 2 ^ 32 = subst (λ (fs : List ℕ). length fs < 2 ^ 32) (sym (frames_shown x old past shows e inside)) (few_frames old.plan x past e good run inside) in
-        none_or_some found reply is ((surveyed few).only reply (answer_of old x who reply 0 e goal sweep [] (may_of x old past shows (stamp_of who (Survey e goal sweep) [] reply 0) good run step tt)));
+        none_or_some found reply is ((surveyed few).only reply (answer_of old x who reply 0 e goal sweep (take count []) (may_of x old past shows (stamp_of who (Survey e goal sweep) (take count []) reply 0) good run step tt)));
     part_is = refl;
   }

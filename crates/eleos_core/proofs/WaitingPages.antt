@@ -17,7 +17,7 @@ use Rattle.eleos_core.specs.declared.event.Wanted.{Wanted}
 use Rattle.eleos_core.specs.declared.event.Wanted.TheVariants.{Link as ALink, Op as ACall}
 use Rattle.eleos_core.specs.Accesses.{IsSpot, page_for}
 use Rattle.eleos_core.specs.Applying.{parts_in}
-use Rattle.eleos_core.specs.Cells.{Cells, IsVault, cells_of, part_in, part_of_frame, part_of_page}
+use Rattle.eleos_core.specs.Cells.{Cells, IsCore, cells_of, part_in, part_of_frame, part_of_page}
 use Rattle.eleos_core.specs.Legal.{NeedsFrame}
 use Rattle.eleos_core.specs.Fills.{sealed_places}
 use Rattle.eleos_core.specs.Parts.{Part, block_at, frame_in, no_part, page_cell, sealed_from, subs_in, wanted_refusal_in}
@@ -73,7 +73,7 @@ beyond k at out =
     let long : length counts ≤ at.enclave = omega (arith, length-map k.enclaves (λ (made : EnclavePlan). made.pages)) in
     let all : first_of_run counts at.enclave ≡ sum counts = ap sum (take_all at.enclave counts long) in omega arith
 
-module _ (k : Plan) (live : List (List Live)) (clocks : List (List ℕ)) (pages : List Page) (frames : List Frame) (links : List ℕ) (vault : IsVault k live clocks pages frames links) where
+module _ (k : Plan) (live : List (List Live)) (clocks : List (List ℕ)) (pages : List Page) (frames : List Frame) (links : List ℕ) (core : IsCore k live clocks pages frames links) where
   abbrev cells : Cells
   cells = cells_of k live clocks pages frames links
 
@@ -84,7 +84,7 @@ module _ (k : Plan) (live : List (List Live)) (clocks : List (List ℕ)) (pages 
       (λ e h is. refl)
       (λ is. refl)
       (λ q h is. absurd (omega arith))
-      (λ f h is. let small : f < length frames = (let all = vault.frames_are in omega arith) in
+      (λ f h is. let small : f < length frames = (let all = core.frames_are in omega arith) in
       ap frame_in (get_or-map part_of_frame frames f (some_item frames f small) no_part small))
       (λ h. refl)
 
@@ -98,7 +98,7 @@ module _ (k : Plan) (live : List (List Live)) (clocks : List (List ℕ)) (pages 
       (λ e h is. refl)
       (λ is. refl)
       (λ q h is. absurd (omega arith))
-      (λ f h is. let small : f < length frames = (let all = vault.frames_are in omega arith) in
+      (λ f h is. let small : f < length frames = (let all = core.frames_are in omega arith) in
       ap subs_in (get_or-map part_of_frame frames f (some_item frames f small) no_part small))
       (λ h. refl)
 
@@ -110,14 +110,14 @@ module _ (k : Plan) (live : List (List Live)) (clocks : List (List ℕ)) (pages 
   page_for-there at spot page is small value =
       let p : ℕ = page_of k (sub_of k at) in
       let here : spot.page ≡ p = is.page in
-      let inside : p < all_pages k = (let all = vault.pages_are in omega arith) in
+      let inside : p < all_pages k = (let all = core.pages_are in omega arith) in
       page_at cells p inside ∙ (get_or-map part_of_page pages p page no_part (omega arith) ∙ ap part_of_page (ap (λ i. slice_index_or pages i page) (sym here) ∙ sym value))
 
   -- the frames that what waits may take
   wanted_frames-are : (who : ℕ) (wanted : Wanted) (own : List ℕ) → IsCaller k who → MayWait cells who wanted → own ≡ slice_index_or clocks (enclave_of k who) own → own ≡ wanted_frames cells wanted
   wanted_frames-are who wanted own caller may is =
-      owned k live clocks pages frames links vault (Some (enclave_of k who)) own (at_home k who vault.good caller) is
-      ∙ ap (frames_of_owner cells) (sym (home_is k who wanted (page_for cells (address_of wanted)) vault.good caller may.needs may.not_refused))
+      owned k live clocks pages frames links core (Some (enclave_of k who)) own (at_home k who core.good caller) is
+      ∙ ap (frames_of_owner cells) (sym (home_is k who wanted (page_for cells (address_of wanted)) core.good caller may.needs may.not_refused))
 
   -- whether what waits is starving, by the test of its frames
   pub starving_decides : (who : ℕ) (wanted : Wanted) (sweep : List Looked) (own : List ℕ) (r : Bool) → IsCaller k who → own ≡ slice_index_or clocks (enclave_of k who) own → IsWaiting cells who wanted

@@ -12,7 +12,7 @@ use Rattle.eleos_base.specs.Plans.{sub_bytes}
 use Rattle.eleos_core.specs.declared.accesses.spots.Spot.{Spot}
 use Rattle.eleos_core.specs.declared.event.Event.{Event}
 use Rattle.eleos_core.specs.declared.event.Event.TheVariants.{Op, Link, Unlink}
-use Rattle.eleos_core.specs.declared.vault.Put.{Put}
+use Rattle.eleos_core.specs.declared.machine.Put.{Put}
 use Rattle.eleos_core.specs.Applying.{page_puts, parts_in, put_of, stamp_of}
 use Rattle.eleos_core.specs.Cells.{Cells, sub_size, subs_per_page}
 use Rattle.eleos_core.specs.Legal.{Judged, failed, judged, passed}

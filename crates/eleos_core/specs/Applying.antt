@@ -1,5 +1,5 @@
 -- What applying an event means: by the parts of the cells, and by the history behind them.
-use Rattle.std.specs.Prelude.{◌≡◌, ℕ, ◌+◌, ◌*◌, ◌<◌, ◌≤◌, List, [], ◌∷◌, filter, map, Bool, Option, Some, None, is_some, if◌then◌else◌}
+use Rattle.std.specs.Prelude.{◌≡◌, ℕ, ◌+◌, ◌*◌, ◌<◌, List, [], ◌∷◌, filter, map, take, Bool, Option, Some, is_some, if◌then◌else◌}
 use Rattle.eleos_base.specs.declared.memory.Part.{Part as Offence}
 use Rattle.eleos_base.specs.declared.memory.Part.TheVariants.{Present, Frame, Absent, Linked, Owner, Untied}
 use Rattle.eleos_base.specs.declared.memory.Op.TheVariants.{Write}
@@ -10,7 +10,7 @@ use Rattle.eleos_base.specs.Ties.{Has}
 use Rattle.eleos_core.specs.declared.event.Entry.{Entry}
 use Rattle.eleos_core.specs.declared.event.Event.{Event}
 use Rattle.eleos_core.specs.declared.event.Event.TheVariants.{Op, Link, Unlink, Fill, Evict, Move, Starved, Spoiled, Survey}
-use Rattle.eleos_core.specs.declared.vault.Put.{Put}
+use Rattle.eleos_core.specs.declared.machine.Put.{Put}
 use Rattle.eleos_core.specs.Cells.{Cells, links_in, part_in}
 use Rattle.eleos_core.specs.Legal.{CoreRun, CoreStep, passes}
 use Rattle.eleos_core.specs.Parts.{Part, Stamp, SubPart, MayStep, after_at, cell_of, foot, frame_in, page_cell, part_at, places_in, sealing_in, seals_in, subs_in}
@@ -93,9 +93,9 @@ module _ (k : Plan) (x : Seals) where
     pub puts : map put_of sent ≡ puts_of (entry_of past who event given reply) past
     pub shown : Shows x (entry_of past who event given reply ∷ past) new
 
-  -- no entry of the event is legal, whatever the reply
+  -- no entry of the event is legal, with whatever front of the blocks that were given and whatever reply
   pub record IsIllegal (past : History) (who : ℕ) (event : Event) (given : List (List ℕ)) (part : Offence) : Type 0 where
-    pub never : (reply : Reply) → CoreStep k x past (entry_of past who event given reply) → ⊥
+    pub never : (count : ℕ) (reply : Reply) → CoreStep k x past (entry who event (take count given) reply) → ⊥
     pub part_is : part ≡ offence past event
 
 -- after whatever legal history from a good plan the cells show, the event was applied

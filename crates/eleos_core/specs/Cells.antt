@@ -1,5 +1,5 @@
 -- The machine's cells in memory, and the parts that they have.
-use Rattle.std.specs.Prelude.{◌≡◌, ℕ, ◌+◌, ◌-◌, ◌*◌, ◌<◌, ◌≤◌, ◌^◌, List, [], ◌∷◌, length, map, take, drop, replicate, true, false, Option, Some, None, is_some, option_map, unwrap_or, slice_index, slice_index_or, IsTrue}
+use Rattle.std.specs.Prelude.{◌≡◌, ℕ, ◌+◌, ◌-◌, ◌*◌, ◌<◌, ◌≤◌, List, [], length, map, take, drop, Option, Some, None, is_some, option_map, unwrap_or, slice_index, slice_index_or, IsTrue}
 use Rattle.std.specs.List.{AllByRecursion}
 use Rattle.eleos_base.specs.declared.memory.Live.{Live}
 use Rattle.eleos_base.specs.declared.plan.Plan.{Plan}
@@ -102,7 +102,7 @@ abbrev pub cells_of : Plan → List (List Live) → List (List ℕ) → List Pag
 cells_of plan live clocks pages frames links = record { plan = plan; live = live; clocks = clocks; pages = map part_of_page pages; frames = map part_of_frame frames; links = links }
 
 -- what holds of all cells of a plan
-pub record IsVault (k : Plan) (live : List (List Live)) (clocks : List (List ℕ)) (pages : List Page) (frames : List Frame) (links : List ℕ) : Type 0 where
+pub record IsCore (k : Plan) (live : List (List Live)) (clocks : List (List ℕ)) (pages : List Page) (frames : List Frame) (links : List ℕ) : Type 0 where
   pub good : IsGood k
   pub enclaves : length live ≡ length k.enclaves
   pub in_order : (e : ℕ) → e < length k.enclaves → AreInOrder 0 (subs k e) (slice_index_or live e [])

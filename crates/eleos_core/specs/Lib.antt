@@ -1,4 +1,3 @@
-pub mod Held
 pub mod Order
 pub mod Runs
 pub mod Places

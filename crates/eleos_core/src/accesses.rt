@@ -1,9 +1,10 @@
 // Reads and writes of a machine's memory.
-ghost use Rattle.std.specs.Prelude.{◌≡◌, map, IfOk, OnErr};
+ghost use Rattle.std.specs.Prelude.{◌≡◌, length, map, All, IfOk, OnErr};
 ghost use Rattle.eleos_base.specs.Plans.{IsCaller};
 ghost use Rattle.eleos_core.specs.Accesses.{AreBlocks, call_places, read_stamp, refusal_on};
 ghost use Rattle.eleos_core.specs.Accesses.{write_stamp};
 ghost use Rattle.eleos_core.specs.Applying.{Makes, parts_in, put_of, puts_in};
+ghost use Rattle.eleos_core.specs.Cells.{sub_size};
 ghost use Rattle.eleos_core.specs.Seals.{seals_by};
 
 mod openings;
@@ -15,13 +16,13 @@ mod spots;
 use crate::accesses::pages::{read_page, write_page};
 use crate::accesses::refusals::{is_worn, use_refusal};
 use crate::event::{Block, Event};
-use crate::vault::{Outcome, Vault};
+use crate::machine::{Core, Effect};
 use eleos_base::{Addr, NoMemory, Op, Reply, Sealer};
 pub use pages::only_reply;
 pub use spots::{Spot, is_in_range, spot_of};
 use std::alloc::Global;
 
-impl Vault {
+impl Core {
     /// Why the caller may not access so many bytes at the address.
     pub fn access_refusal(&self, who: u32, at: Addr, len: usize) -> Option<Reply>
         requires { IsCaller self.now.plan who }
@@ -71,17 +72,19 @@ impl Vault {
         at: Addr,
         bytes: &[u8],
         blocks: &[Block],
-    ) -> Result<Outcome, NoMemory>
+    ) -> Result<Effect, NoMemory>
         requires caller { IsCaller self.old.plan who }
         requires blocks { AreBlocks (call_places self.old who (Op.Write at bytes.now)) blocks.now }
-        ensures makes { IfOk result (λ outcome.
+        ensures makes { IfOk result (λ effect.
             Makes (seals_by (S.key sealer.now))
-            (write_stamp who at bytes.now blocks.now outcome.reply) self.old self.new) }
-        ensures puts { IfOk result (λ outcome.
-            map put_of outcome.puts
+            (write_stamp who at bytes.now blocks.now effect.reply) self.old self.new) }
+        ensures puts { IfOk result (λ effect.
+            map put_of effect.puts
             ≡ puts_in self.old.plan (seals_by (S.key sealer.now))
-            (write_stamp who at bytes.now blocks.now outcome.reply)
+            (write_stamp who at bytes.now blocks.now effect.reply)
             (parts_in self.old) (Event.Op (Op.Write at bytes.now))) }
+        ensures blocks { IfOk result (λ effect.
+            All (λ put. length put.block ≡ sub_size) effect.puts) }
         ensures err { OnErr result (self.new ≡ self.old) }
     {
         if let Some(refusal) = self.access_refusal(who, at, bytes.len()) {
@@ -89,7 +92,7 @@ impl Vault {
         }
         let spot = spot_of(&self.plan, at);
         let page = &mut self.pages[spot.page as usize];
-        let outcome = write_page(alloc, &self.plan, sealer, page, who, at, bytes, blocks)?;
-        Ok(outcome)
+        let effect = write_page(alloc, &self.plan, sealer, page, who, at, bytes, blocks)?;
+        Ok(effect)
     }
 }

@@ -11,13 +11,13 @@ use crate::allots::homes::{enclave_of, first_sub, subs_of};
 use crate::allots::lists::{lowest_in, owned_in, put_in, share_in, take_from};
 use crate::allots::marks::{Mark, mark_run};
 use crate::blocks::SUB_BYTES;
-use crate::vault::Vault;
+use crate::machine::Core;
 use eleos_base::{Addr, Live, NoMemory, Op, Reply};
 
 /// Most bytes of a block.
 const MOST_BYTES: u32 = 65_536;
 
-impl Vault {
+impl Core {
     /// Allocates a block of so many bytes in the lowest free run of the caller's enclave, and
     /// answers its address, or `BadSize` or `NoSpace`. After want of memory nothing has changed.
     pub fn alloc(&mut self, who: u32, bytes: u32) -> Result<Reply, NoMemory>

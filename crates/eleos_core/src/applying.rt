@@ -1,7 +1,8 @@
 // Applying events to a machine: what is not legal is refused, and the rest is made on the cells.
-ghost use Rattle.std.specs.Prelude.{◌≡◌, Err, IfOk, OnErr};
+ghost use Rattle.std.specs.Prelude.{◌≡◌, length, All, Err, IfOk, OnErr};
 ghost use Rattle.eleos_core.specs.Accesses.{AreBlocks};
 ghost use Rattle.eleos_core.specs.Applying.{AlwaysApplies, AlwaysIllegal};
+ghost use Rattle.eleos_core.specs.Cells.{sub_size};
 ghost use Rattle.eleos_core.specs.Legal.{IsWithin};
 ghost use Rattle.eleos_core.specs.Needs.{needed};
 ghost use Rattle.eleos_core.specs.Seals.{seals_by};
@@ -14,16 +15,18 @@ mod needs;
 mod waits;
 
 use crate::event::{Block, Event};
-use crate::vault::{ApplyRefused, Outcome, Vault};
+use crate::machine::{ApplyRefused, Core, Effect};
 use eleos_base::Sealer;
 pub use needs::Places;
 use std::alloc::Global;
 
-impl Vault {
+impl Core {
     /// Applies an event: exactly the machine's step, whatever legal history it is after.
     ///
-    /// `blocks` are those of the places that `need` answers, in the same order. Illegal comes
-    /// before want of memory, and after either nothing has changed.
+    /// `blocks` are those of the places that `need` answers, in the same order. After Illegal
+    /// and after want of memory nothing has changed. Illegal comes before want of memory for
+    /// calls, links, unlinks, fills, evicts and moves; judging Starved, Spoiled and Survey may
+    /// itself want memory.
     pub fn apply<S: Sealer>(
         &mut self,
         alloc: Global,
@@ -31,12 +34,14 @@ impl Vault {
         who: u32,
         event: &Event,
         blocks: &[Block],
-    ) -> Result<Outcome, ApplyRefused>
+    ) -> Result<Effect, ApplyRefused>
         requires within { IsWithin self.old.plan who event.now }
         requires blocks { AreBlocks (needed self.old who event.now) blocks.now }
-        ensures applied { IfOk result (λ outcome.
+        ensures applied { IfOk result (λ effect.
             AlwaysApplies (seals_by (S.key sealer.now)) self.old who event.now blocks.now
-            outcome.reply outcome.puts self.new) }
+            effect.reply effect.puts self.new) }
+        ensures blocks { IfOk result (λ effect.
+            All (λ put. length put.block ≡ sub_size) effect.puts) }
         ensures illegal { (part : Offence) → result ≡ Err (ApplyRefused.Illegal part)
             → AlwaysIllegal (seals_by (S.key sealer.now)) self.old who event.now blocks.now part }
         ensures err { OnErr result (self.new ≡ self.old) }

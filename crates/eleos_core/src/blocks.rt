@@ -1,8 +1,8 @@
 // Live blocks, and the runs that are free between them.
-ghost use Rattle.std.specs.Prelude.{◌≡◌, ◌≤◌, ◌<◌, ◌*◌, ◌/◌, ◌^◌, ℕ, length, nat_lt};
+ghost use Rattle.std.specs.Prelude.{◌≡◌, ◌≤◌, length, nat_lt};
 ghost use Rattle.std.specs.Prelude.{map, filter, not, OnOk, OnErr};
 ghost use Rattle.std.specs.List.{find, position, position_or_len};
-ghost use Rattle.eleos_base.specs.Plain.{lowest_run, with_block, has_sub, starts_at, shared_at};
+ghost use Rattle.eleos_base.specs.Plain.{lowest_run, with_block, starts_at, shared_at};
 ghost use Rattle.eleos_core.specs.Order.{AreInOrder};
 
 use eleos_base::{Addr, Live, NoMemory};
@@ -49,20 +49,6 @@ fn first_above(blocks: &[Live], block: Live) -> Option<usize>
     ensures { result ≡ position (λ other. nat_lt block.start other.start) blocks.now }
 {
     blocks.iter().position(|other| block.start < other.start)
-}
-
-/// The block that has the address's sub-page.
-pub fn block_with(blocks: &[Live], at: Addr) -> Option<Live>
-    ensures { result ≡ find (has_sub (at.at / 1024)) blocks.now }
-{
-    blocks.iter().copied().find(|block| has_place(block, at))
-}
-
-fn has_place(block: &Live, at: Addr) -> bool
-    ensures { result ≡ has_sub (at.at / 1024) block.now }
-{
-    let sub = at.at / SUB_BYTES;
-    block.start <= sub && sub - block.start < block.len
 }
 
 /// The block that starts at the address.

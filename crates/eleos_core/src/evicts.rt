@@ -1,7 +1,8 @@
 // A page leaves its frame.
-ghost use Rattle.std.specs.Prelude.{◌≡◌, ◌<◌, ℕ, map, IfOk, OnErr, MatchOption, Some};
+ghost use Rattle.std.specs.Prelude.{◌≡◌, ◌<◌, ℕ, length, map, All, IfOk, OnErr, MatchOption, Some};
 ghost use Rattle.std.specs.Bool.{OnTrue, OnFalse};
 ghost use Rattle.eleos_core.specs.Applying.{Makes, parts_in, put_of, puts_in};
+ghost use Rattle.eleos_core.specs.Cells.{sub_size};
 ghost use Rattle.eleos_core.specs.Evicts.{evict_stamp};
 ghost use Rattle.eleos_core.specs.Fills.{page_in};
 ghost use Rattle.eleos_core.specs.Legal.{IsActor};
@@ -15,11 +16,11 @@ mod sealing;
 use crate::event::Event;
 use crate::evicts::sealing::leave;
 use crate::frames::{SUBS_PER_PAGE, is_in};
-use crate::vault::{Put, Vault};
+use crate::machine::{Core, Put};
 use eleos_base::{List, NoMemory, Part, Sealer};
 use std::alloc::Global;
 
-impl Vault {
+impl Core {
     /// The page leaves the frame, which is free again.
     /// Each dirty sub-page is sealed, and its block goes to the host.
     pub fn evict<S: Sealer>(
@@ -37,6 +38,7 @@ impl Vault {
         ensures puts { IfOk result (λ puts. (who : ℕ) → map put_of puts
             ≡ puts_in self.old.plan (seals_by (S.key sealer.now)) (evict_stamp who page frame)
             (parts_in self.old) (Event.Evict page frame)) }
+        ensures blocks { IfOk result (λ puts. All (λ put. length put.block ≡ sub_size) puts) }
         ensures err { OnErr result (self.new ≡ self.old) }
     {
         let left = &mut self.pages[page as usize];

@@ -17,7 +17,7 @@ use crate::cells::SubPage;
 use crate::event::Block;
 use crate::fills::opening::enter;
 use crate::frames::{home_of, is_free};
-use crate::vault::Vault;
+use crate::machine::Core;
 use eleos_base::{Part, Reply, Sealer};
 pub use opening::{Spoiled, open_subs};
 
@@ -29,7 +29,7 @@ pub struct Filled {
     pub used: usize,
 }
 
-impl Vault {
+impl Core {
     /// Puts an absent page into a free frame of its enclave, with what its blocks open to.
     /// Where a block does not pass nothing changes.
     pub fn fill<S: Sealer>(&mut self, sealer: &S, page: u32, frame: u32, blocks: &[Block]) -> Filled

@@ -9,10 +9,10 @@ ghost use Rattle.eleos_core.specs.Places.{all_pages, page_of, sub_of};
 ghost use Rattle.eleos_core.specs.Seals.{Seals};
 
 use crate::accesses::spot_of;
-use crate::vault::Vault;
+use crate::machine::Core;
 use eleos_base::{Addr, NoMemory, Part, Reply};
 
-impl Vault {
+impl Core {
     /// What a link at the address offends against, where it is not legal: it is not refused, and
     /// the page is absent.
     pub fn link_offence(&self, who: u32, at: Addr) -> Option<Part>

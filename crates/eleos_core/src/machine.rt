@@ -1,66 +1,61 @@
-// The core: the memory of a machine.
-ghost use Rattle.std.specs.Prelude.{◌≡◌, ◌<◌, ◌≤◌, ℕ, [], IfOk, OnErr};
-ghost use Rattle.eleos_base.specs.Plans.{IsGood, IsCaller};
-ghost use Rattle.eleos_core.specs.Held.{IsOpened};
+// The machine's cells, and the links on its pages.
+ghost use Rattle.std.specs.Prelude.{◌≡◌};
+ghost use Rattle.eleos_core.specs.declared.machine.ApplyRefused.TheVariants as refusals;
 
-use crate::enclave::EnclaveMemory;
-use eleos_base::{NoMemory, Op, Plan, Reply};
-use std::alloc::Global;
+use crate::cells::{Alloc, Clock, Frame, Page};
+use eleos_base::{Bytes, List, NoMemory, Part, Plan, Reply};
 use std::marker::Model;
 
-/// What a call brought about.
+/// A block for the host, and its place there.
+#[derive(Debug, Drop)]
+pub struct Put {
+    pub place: u32,
+    pub block: Bytes,
+}
+
+/// What an event brought about: its answer, and the blocks for the host in rising order of place.
 #[derive(Debug, Drop)]
 pub struct Effect {
     pub reply: Reply,
+    pub puts: List<Put>,
 }
 
-/// A machine's memory, with its plan.
+/// Why an event was not applied. Nothing has changed.
+#[derive(Clone, Copy, Debug, PartialEq, Eq)]
+pub enum ApplyRefused {
+    /// No entry of the event is legal now.
+    Illegal { part: Part },
+    NoMemory,
+}
+
+impl From<NoMemory> for ApplyRefused {
+    ghost from_gives = { λ _ refused. refused ≡ refusals.NoMemory };
+
+    fn from(_: NoMemory) -> Self {
+        ApplyRefused::NoMemory
+    }
+}
+
+/// The state of a machine.
 #[derive(Drop)]
 pub struct Core {
-    plan: Plan,
-    memories: Vec<EnclaveMemory>,
+    pub(crate) plan: Plan,
+    /// Enclave by enclave.
+    pub(crate) live: Vec<Alloc>,
+    /// Enclave by enclave, and the pool's last.
+    pub(crate) clocks: Vec<Clock>,
+    pub(crate) pages: Vec<Page>,
+    pub(crate) frames: Vec<Frame>,
+    /// The links of each caller on each page: all pages of caller 1, then those of caller 2, and so on.
+    pub(crate) links: Vec<u64>,
 }
 
 impl Model for Core {
-    ghost use Rattle.eleos_core.specs.Held.{Held, IsHeld};
+    ghost use Rattle.eleos_core.specs.Cells.{Cells, cells_of, IsCore};
 
-    ghost Value = { Held };
+    ghost Value = { Cells };
 
-    ghost view = { λ c. record { plan = c.plan; memory = c.memories.items } };
+    ghost view = { λ v. cells_of v.plan v.live.items v.clocks.items v.pages.items v.frames.items v.links.items };
 
-    ghost invariant = { λ c. IsHeld c.plan c.memories.items };
-}
-
-impl Core {
-    ghost use Rattle.eleos_core.specs.Held.{Held, IsOpened, IsAnswered};
-
-    /// The machine of a plan that has no header blocks.
-    /// All room for the bytes of its sub-pages is taken here.
-    pub fn make(alloc: Global, plan: &Plan) -> Result<Self, NoMemory>
-        requires good { IsGood plan.now }
-        requires no_blocks { plan.now.blocks ≡ [] }
-        ensures { IfOk result (λ core. IsOpened plan.now core) }
-    {
-        let mut memories = Vec::new(alloc);
-        for enclave in plan.enclaves.as_slice() {
-            memories.push(EnclaveMemory::blank(alloc, enclave.pages)?)?;
-        }
-        Ok(Core {
-            plan: plan.copy(alloc)?,
-            memories,
-        })
-    }
-
-    /// Answers a caller's call. After want of memory nothing has changed.
-    pub fn apply(&mut self, alloc: Global, who: u32, op: &Op) -> Result<Effect, NoMemory>
-        requires { IsCaller self.old.plan who }
-        ensures step { IfOk result (λ effect.
-            IsAnswered self.old who op.now effect.reply self.new) }
-        ensures err { OnErr result (self.new ≡ self.old) }
-    {
-        let enclave = self.plan.callers.as_slice()[who as usize - 1];
-        let memory = &mut self.memories[enclave as usize];
-        let reply = memory.answer(alloc, enclave, who, op)?;
-        Ok(Effect { reply })
-    }
+    ghost invariant = { λ v. IsCore v.plan v.live.items v.clocks.items v.pages.items v.frames.items v.links.items };
 }

@@ -11,10 +11,10 @@ ghost use Rattle.eleos_core.specs.Seals.{Seals};
 
 use crate::cells::Clock;
 use crate::frames::is_free;
-use crate::vault::Vault;
+use crate::machine::Core;
 use eleos_base::{NoMemory, Part, Plan};
 
-impl Vault {
+impl Core {
     /// The frame leaves its owner's list, where the gap closes, and goes last in the other's.
     pub fn move_frame(
         &mut self,

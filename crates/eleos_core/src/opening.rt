@@ -8,27 +8,27 @@ mod frames;
 mod lives;
 mod pages;
 
+use crate::machine::Core;
 use crate::opening::frames::{make_clocks, make_frames};
 use crate::opening::lives::make_lives;
 use crate::opening::pages::make_pages;
-use crate::vault::Vault;
 use eleos_base::{NoMemory, Plan};
 use std::alloc::Global;
 
-impl Vault {
+impl Core {
     /// The machine of a plan before its first event. The memory of all its cells is taken here.
     /// A header block for which there is no room is left out.
-    pub fn make(alloc: Global, plan: &Plan) -> Result<Vault, NoMemory>
+    pub fn make(alloc: Global, plan: &Plan) -> Result<Core, NoMemory>
         requires good { IsGood plan.now }
-        ensures plan { IfOk result (λ vault. vault.plan ≡ plan.now) }
-        ensures shown { IfOk result (λ vault. (x : Seals) → Shows x [] vault) }
+        ensures plan { IfOk result (λ core. core.plan ≡ plan.now) }
+        ensures shown { IfOk result (λ core. (x : Seals) → Shows x [] core) }
     {
         let live = make_lives(alloc, plan)?;
         let clocks = make_clocks(alloc, plan)?;
         let pages = make_pages(alloc, plan, &live)?;
         let frames = make_frames(alloc, plan)?;
         let links = no_links(alloc, plan.callers.len(), pages.len())?;
-        Ok(Vault {
+        Ok(Core {
             plan: plan.copy(alloc)?,
             live,
             clocks,

@@ -1,7 +1,12 @@
+pub mod Answering
+pub mod Bindings
+pub mod Entered
+pub mod HeaderBlocks
 pub mod Inputs
 pub mod Maps
 pub mod Opened
 pub mod Readers
 pub mod Refusing
-pub mod Saying
+pub mod LinesSaid
 pub mod Vectors
+pub mod Within

@@ -5,4 +5,6 @@ pub mod Input
 pub mod Log
 pub mod Offset
 pub mod Outcome
-pub mod Replay
+pub mod Replays
+pub mod Scenes
+pub mod Sessions

@@ -1,34 +1,25 @@
 -- The text of a log.
-use Rattle.std.specs.Prelude.{ℕ, List, [], ◌∷◌, ◌++◌, length, Option, Some, None, codes}
-use Rattle.std.specs.List.{flat_map, filter_map}
-use Rattle.std.specs.Option.{option_map}
+use Rattle.std.specs.Prelude.{ℕ, List, [], ◌∷◌, ◌++◌, length, filter, Bool, true, false, codes}
+use Rattle.std.specs.List.{flat_map}
 use Rattle.std.specs.Fmt.{decimal}
 use Rattle.eleos_base.specs.declared.memory.Looked.{Looked}
+use Rattle.eleos_base.specs.declared.memory.Part.{Part as Offence}
+use Rattle.eleos_base.specs.declared.memory.Part.TheVariants.{Present, Frame, Absent, Linked, Owner, Untied}
 use Rattle.eleos_base.specs.declared.memory.Reply.{Reply}
 use Rattle.eleos_base.specs.declared.memory.Reply.TheVariants.{Got, Done, Text, BadSize, NoSpace, NotABlock, BadRange, Unallocated, NotYours, Worn, NoFrame, Tampered, Enough, Swept, Reached, Pinned, Short}
-use Rattle.eleos_base.specs.Plain.{Call}
 use Rattle.eleos_trace.specs.declared.trace.Line.{Line}
+use Rattle.eleos_trace.specs.declared.word.Word.{Word}
+use Rattle.eleos_trace.specs.declared.word.Word.TheVariants.{Evict}
 use Rattle.eleos_trace.specs.Spelling.{hex_text, word_text, actor_text}
+use Rattle.eleos_top.specs.declared.answer.Answer.{Answer}
+use Rattle.eleos_top.specs.declared.answer.Answer.TheVariants.{Skipped, Entered, Refused, Acted}
 
--- what a command made: a call on the memory, with its stamp
-pub record Made : Type 0 where
-  pub stamp : ℕ
-  pub call : Call
-
--- a line of the log: a command of the trace, and what it made; nothing, where its name was not bound
+-- a line of the log
 pub record Said : Type 0 where
   pub line : Line
-  pub made : Option Made
+  pub answer : Answer
 
--- the calls that lines made
-abbrev pub calls : List Said → List Call
-calls lines = filter_map (λ said. option_map (λ made. made.call) said.made) lines
-
--- how many lines have a stamp
-abbrev pub stamps : List Said → ℕ
-stamps lines = length (calls lines)
-
--- a word, a blank and another
+-- a word, a blank and a number
 abbrev pub with_number : List ℕ → ℕ → List ℕ
 with_number word number = word ++ 32 ∷ decimal number
 
@@ -56,29 +47,67 @@ reply_text (Reached share) = with_number (codes "done") share
 reply_text (Pinned share) = with_number (codes "pinned") share
 reply_text (Short share) = with_number (codes "short") share
 
+-- the reply to an evict: one that is accepted tells how many blocks were put
+abbrev pub evict_text : Reply → ℕ → List ℕ
+evict_text Done puts = with_number (codes "put") puts
+evict_text reply puts = reply_text reply
+
+-- the reply to a command that became an entry
+abbrev pub entry_text : Word → Reply → ℕ → List ℕ
+entry_text (Evict page frame) reply puts = evict_text reply puts
+entry_text word reply puts = reply_text reply
+
+-- what is offended against
+abbrev pub part_text : Offence → List ℕ
+part_text Present = codes "present"
+part_text Frame = codes "frame"
+part_text Absent = codes "absent"
+part_text Linked = codes "linked"
+part_text Owner = codes "owner"
+part_text Untied = codes "untied"
+
+-- an act of the host, by whether it did anything
+abbrev pub act_text : Bool → List ℕ
+act_text true = codes "ok"
+act_text false = codes "none"
+
+-- what stands behind a command
+abbrev pub answer_text : Word → Answer → List ℕ
+answer_text word Skipped = codes "skipped"
+answer_text word (Entered stamp reply puts) = entry_text word reply puts
+answer_text word (Refused part) = codes "illegal" ++ 32 ∷ part_text part
+answer_text word (Acted is_done) = act_text is_done
+
+-- what stands before a line: the stamp of an entry, or a dash
+abbrev pub stamp_text : Answer → List ℕ
+stamp_text (Entered stamp reply puts) = decimal stamp
+stamp_text _ = codes "-"
+
 -- a line between its stamp and its answer
 abbrev pub command_text : Line → List ℕ
 command_text line = 32 ∷ actor_text line.actor ++ 32 ∷ word_text line.command ++ codes " = "
 
 -- `STAMP ACTOR TEXT = REPLY` and a newline
-abbrev pub said_text : ℕ → Line → Reply → List ℕ
-said_text stamp line reply = decimal stamp ++ command_text line ++ reply_text reply ++ 10 ∷ []
-
--- the line; one without a stamp is skipped
-abbrev pub line_text : Said → List ℕ
-line_text said = text said.line said.made where
-  text : Line → Option Made → List ℕ
-  text line None = codes "-" ++ command_text line ++ codes "skipped" ++ 10 ∷ []
-  text line (Some made) = said_text made.stamp line made.call.reply
+abbrev pub said_text : Said → List ℕ
+said_text said = stamp_text said.answer ++ command_text said.line ++ answer_text said.line.command said.answer ++ 10 ∷ []
 
 -- the lines, one after another
 abbrev pub lines_text : List Said → List ℕ
-lines_text lines = flat_map line_text lines
+lines_text lines = flat_map said_text lines
+
+-- the answer is an entry
+abbrev pub is_entry : Answer → Bool
+is_entry (Entered stamp reply puts) = true
+is_entry _ = false
+
+-- how many lines are entries
+abbrev pub entries : List Said → ℕ
+entries lines = length (filter (λ said. is_entry said.answer) lines)
 
 -- `end N` and a newline
 abbrev pub end_text : ℕ → List ℕ
 end_text count = with_number (codes "end") count ++ 10 ∷ []
 
--- the lines, and `end N` with the number of stamps
+-- the lines, and `end N` with the number of entries
 abbrev pub log_text : List Said → List ℕ
-log_text lines = lines_text lines ++ end_text (stamps lines)
+log_text lines = lines_text lines ++ end_text (entries lines)

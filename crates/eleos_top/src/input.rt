@@ -24,8 +24,10 @@ pub enum InputError {
 pub fn trace_in<S: Source>(alloc: Global, source: &mut S) -> Result<Trace, InputError>
     ensures trace { IfOk result (λ trace. IfSome (S.left source.old) (TellsTrace trace)) }
     ensures good { IfOk result (λ trace. IsReplay trace) }
-    ensures refused { (bad : Bad) → result ≡ Err (InputError.Refused bad) → IfSome (S.left source.old) (TellsBad bad) }
-    ensures failed { IsErrOf result InputError.Failed → HasRisen (S.faults source.old) (S.faults source.new) }
+    ensures refused { (bad : Bad) → result ≡ Err (InputError.Refused bad)
+        → IfSome (S.left source.old) (TellsBad bad) }
+    ensures failed { IsErrOf result InputError.Failed
+        → HasRisen (S.faults source.old) (S.faults source.new) }
 {
     let input = match read_all(alloc, source) {
         Ok(input) => input,

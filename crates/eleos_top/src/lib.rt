@@ -1,19 +1,28 @@
 //! What the program does, from the bytes that come in to the bytes that go out.
 #![tactic(auto)]
 
+mod answer;
 mod gcm;
+mod headers;
 mod input;
+mod meanings;
 mod offsets;
 mod picking;
 mod places;
 mod replaying;
+mod replies;
+mod said;
+mod scenes;
+mod sessions;
 mod streams;
 mod text;
 mod top;
+mod unties;
+mod words;
 
 pub use gcm::gcm_top;
 pub use picking::main_top;
-pub use top::replay_top;
+pub use replaying::replay_top;
 
 #[cfg(test)]
 mod tests;

@@ -1,15 +1,16 @@
-// The addresses of names.
-ghost use Rattle.std.specs.Prelude.{◌≡◌, OnOk, IfOk};
-ghost use Rattle.std.specs.FinMap as map;
+// The addresses of each caller's names.
+ghost use Rattle.std.specs.Prelude.{◌≡◌, ◌-◌, OnOk};
+ghost use Rattle.std.specs.FinMap as finmap;
+ghost use Rattle.eleos_top.specs.Scenes.{address_in, places_after, places_of, with_place};
 
-use crate::offsets::at_offset;
-use eleos_base::{Addr, Bytes, NoMemory, Op};
+use eleos_base::{Addr, NoMemory, Reply};
 use eleos_trace::Word;
 use std::alloc::Global;
 use std::collections::BTreeMap;
 use std::marker::Model;
 
-/// The names that have an address. Looking one up takes the logarithm of their number.
+/// The names of one caller that have an address.
+/// Looking one up takes the logarithm of their number.
 #[derive(Drop)]
 pub struct Places {
     items: BTreeMap<Vec<u8>, Addr>,
@@ -32,10 +33,8 @@ impl Model for Places {
 }
 
 impl Places {
-    ghost use Rattle.eleos_top.specs.Replay.{op_of};
-
     pub fn new(alloc: Global) -> Self
-        ensures { result ≡ map.empty }
+        ensures { result ≡ finmap.empty }
     {
         Places {
             items: BTreeMap::new(alloc),
@@ -43,46 +42,80 @@ impl Places {
     }
 
     pub fn add(&mut self, alloc: Global, name: &[u8], at: Addr) -> Result<(), NoMemory>
-        ensures { OnOk result (self.new ≡ map.insert self.old name.now at) }
+        ensures { OnOk result (self.new ≡ finmap.insert self.old name.now at) }
     {
         self.items.insert(name.to_vec(alloc)?, at)?;
         Ok(())
     }
 
     pub fn address_of(&self, name: &[u8]) -> Option<Addr>
-        ensures { result ≡ map.get self.now name.now }
+        ensures { result ≡ finmap.get self.now name.now }
     {
         self.items.get(name).copied()
     }
+}
 
-    /// The call that a command means, where its name has an address.
-    pub fn op_of(&self, alloc: Global, word: &Word) -> Result<Option<Op>, NoMemory>
-        ensures { IfOk result (λ op. op ≡ op_of self.now word.now) }
-    {
-        match word {
-            Word::Alloc { bytes, .. } => Ok(Some(Op::Alloc { bytes: *bytes })),
-            Word::Free { name } => match self.address_of(name.as_slice()) {
-                None => Ok(None),
-                Some(at) => Ok(Some(Op::Free { at })),
-            },
-            Word::Read { name, offset, len } => match self.address_of(name.as_slice()) {
-                None => Ok(None),
-                Some(at) => Ok(Some(Op::Read {
-                    at: at_offset(at, *offset),
-                    len: *len,
-                })),
-            },
-            Word::Write {
-                name,
-                offset,
-                bytes,
-            } => match self.address_of(name.as_slice()) {
-                None => Ok(None),
-                Some(at) => Ok(Some(Op::Write {
-                    at: at_offset(at, *offset),
-                    bytes: bytes.copy(alloc)?,
-                })),
-            },
-        }
+/// The address that the caller's name has.
+pub fn address_of(callers: &[Places], who: u32, name: &[u8]) -> Option<Addr>
+    ensures { result ≡ finmap.get (places_of callers.now who) name.now }
+{
+    match callers.get(index_of(who)) {
+        Some(places) => places.address_of(name),
+        None => None,
     }
+}
+
+/// The caller's name gets the address, if there is one.
+pub fn bind(
+    alloc: Global,
+    callers: &mut [Places],
+    who: u32,
+    name: &[u8],
+    at: Option<Addr>,
+) -> Result<(), NoMemory>
+    ensures { OnOk result (callers.new ≡ with_place who name.now at callers.old) }
+{
+    let Some(at) = at else {
+        return Ok(());
+    };
+    let index = index_of(who);
+    if index < callers.len() {
+        callers[index].add(alloc, name, at)
+    } else {
+        Ok(())
+    }
+}
+
+/// The name of an alloc gets the address that it was answered.
+pub fn bind_answered(
+    alloc: Global,
+    callers: &mut [Places],
+    who: u32,
+    word: &Word,
+    reply: &Reply,
+) -> Result<(), NoMemory>
+    ensures { OnOk result (callers.new
+        ≡ places_after who word.now reply.now callers.old) }
+{
+    match word {
+        Word::Alloc { name, .. } => bind(alloc, callers, who, name.as_slice(), address_in(reply)),
+        _ => Ok(()),
+    }
+}
+
+/// The address that an alloc was answered.
+fn address_in(reply: &Reply) -> Option<Addr>
+    ensures { result ≡ address_in reply.now }
+{
+    match reply {
+        Reply::Got(at) => Some(*at),
+        _ => None,
+    }
+}
+
+/// Callers are numbered from 1.
+fn index_of(who: u32) -> usize
+    ensures { result ≡ who - 1 }
+{
+    who.saturating_sub(1) as usize
 }

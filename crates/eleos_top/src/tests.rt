@@ -1,13 +1,23 @@
 // The top call on worked traces, and how it ends early.
 
 use crate::{gcm_top, main_top, replay_top};
+use cases::CASES;
 use eleos_base::{ListSink, ListSource, Status};
+use eleos_host::ToldHost;
 use std::alloc::Global;
 use std::test::Fail;
 use vectors::VECTORS;
 
+mod cases;
+mod draws;
+mod lines;
+mod plain;
+mod random;
 mod refusals;
 mod vectors;
+
+/// Places of the host: one for each sub-page of the largest machine.
+const PLACES: u32 = 16_384;
 
 /// A trace with its log.
 struct Row {
@@ -16,7 +26,7 @@ struct Row {
     log: &'static str,
 }
 
-/// Traces that were worked out by hand.
+/// Traces of one enclave and one caller, without a word to the frames.
 const ROWS: [Row; 6] = [
     Row {
         pages: 4,
@@ -58,6 +68,11 @@ fn trace(alloc: Global, pages: u32, commands: &str) -> Result<Vec<u8>, Fail> {
     Ok(text.as_bytes().to_vec(alloc)?)
 }
 
+/// A host that has nothing yet.
+fn host(alloc: Global) -> Result<ToldHost, Fail> {
+    ToldHost::make(alloc, PLACES).map_err(|_| "no memory".into())
+}
+
 /// Runs the top call on an input, where some takes and puts fail: its status, and what it put.
 fn replayed(
     alloc: Global,
@@ -69,7 +84,8 @@ fn replayed(
     let words = vec![in alloc; word.to_string(alloc)?]?;
     let mut source = ListSource::new(input, takes);
     let mut sink = ListSink::new(alloc, puts);
-    let status = replay_top(alloc, &words, &mut source, &mut sink);
+    let mut host = host(alloc)?;
+    let status = replay_top(alloc, &words, &mut source, &mut sink, &mut host);
     let put = std::str::from_utf8(sink.bytes()).map_err(|_| "no text")?;
     Ok((status, put.to_string(alloc)?))
 }
@@ -85,7 +101,8 @@ fn called(
     let words = vec![in alloc; word.to_string(alloc)?]?;
     let mut source = ListSource::new(input.as_bytes().to_vec(alloc)?, takes);
     let mut sink = ListSink::new(alloc, puts);
-    let status = main_top(alloc, &words, &mut source, &mut sink);
+    let mut host = host(alloc)?;
+    let status = main_top(alloc, &words, &mut source, &mut sink, &mut host);
     let put = std::str::from_utf8(sink.bytes()).map_err(|_| "no text")?;
     Ok((status, put.to_string(alloc)?))
 }
@@ -98,6 +115,19 @@ fn prints_the_worked_logs(rt: HostRuntime) -> Result<(), Fail> {
         let (status, put) = replayed(alloc, "replay", input, Vec::new(alloc), Vec::new(alloc))?;
         assert_eq!(rt; status, Status::Done);
         assert_eq!(rt; put.as_str(), row.log);
+    }
+    Ok(())
+}
+
+#[test]
+fn replays_with_frames_seals_and_links(rt: HostRuntime) -> Result<(), Fail> {
+    let alloc = rt.alloc();
+    for case in &CASES {
+        let mut input = case.header.as_bytes().to_vec(alloc)?;
+        input.extend_from_slice(case.commands.as_bytes())?;
+        let (status, put) = replayed(alloc, "replay", input, Vec::new(alloc), Vec::new(alloc))?;
+        assert_eq!(rt; status, Status::Done);
+        assert_eq!(rt; put.as_str(), case.log, "{}", case.shows);
     }
     Ok(())
 }
@@ -132,8 +162,9 @@ fn other_words_put_nothing(rt: HostRuntime) -> Result<(), Fail> {
     let words = vec![in alloc; "run".to_string(alloc)?, "fast".to_string(alloc)?]?;
     let mut source = ListSource::new(input, Vec::new(alloc));
     let mut sink = ListSink::new(alloc, Vec::new(alloc));
+    let mut host = host(alloc)?;
     assert_eq!(rt;
-        replay_top(alloc, &words, &mut source, &mut sink),
+        replay_top(alloc, &words, &mut source, &mut sink, &mut host),
         Status::Usage
     );
     assert_eq!(rt; sink.bytes().len(), 0);

@@ -1,172 +1,181 @@
--- There was room for each command that is read.
-use Rattle.std.proofs.Common.{◌≡◌, ℕ, ◌<◌, List, Bool, true, cond, ◌||◌, Result, Ok, Err, inl, inr, codes, arith}
+-- Header blocks stand one behind the other, so that what is free is behind them.
+use Rattle.std.proofs.Common.{◌≡◌, ℕ, zero, suc, ◌+◌, ◌-◌, ◌<◌, ◌≤◌, List, [], ◌∷◌, length, Some, None, Bool, true, false, refl, ◌∙◌, ap, cond, nat_le, nat_lt, ◌==◌, ◌&&◌, arith, get_or, map, is_some}
+use Rattle.std.proofs.Math.ListN.{length-replicate}
+use Rattle.std.specs.List.{list_all, filter, fold}
+use Rattle.std.specs.Prelude.{All}
 use Rattle.std.proofs.lemmas.Bool.Decides.{nat_tests}
-use Rattle.eleos_trace.specs.declared.header.Machine.{Machine}
-use Rattle.eleos_trace.specs.declared.seen.Seen.{Seen}
-use Rattle.eleos_trace.specs.declared.word.Word.{Word}
-use Rattle.eleos_trace.specs.declared.why.Why.{Why}
-use Rattle.eleos_trace.specs.Fields.{is}
-use Rattle.eleos_trace.specs.Reasons.{one, two, three, two_and_more}
-use Rattle.eleos_trace.specs.Commands.{has_room, alloc_of, free_of, read_of, write_of}
-use Rattle.eleos_trace.specs.Planned.{share_of, tie_of, fill_of, move_of, flip_of, swap_of, keep_of}
-use Rattle.eleos_trace.specs.RunForms.{point_of, link_of, step_of, sread_of, swrite_of, balloon_of, call_of}
-use Rattle.eleos_trace.specs.Verbs.{is_link, run_command_of, host_command_of, planned_command_of, command_of, word_of}
-use Rattle.eleos_trace.proofs.Inversion.{bind_ok, guard_ok, cond_either}
+use Rattle.std.proofs.lemmas.List.Elements.{All-head, All-tail}
+use Rattle.eleos_base.specs.declared.memory.Live.{Live}
+use Rattle.eleos_base.specs.declared.plan.Plan.{Plan}
+use Rattle.eleos_base.specs.declared.plan.BlockPlan.{BlockPlan}
+use Rattle.eleos_base.specs.declared.plan.EnclavePlan.{EnclavePlan}
+use Rattle.eleos_base.specs.Lists.{first_from, map_from}
+use Rattle.eleos_base.specs.Plans.{subs_in}
+use Rattle.eleos_base.specs.Plain.{EnclaveMemory, lowest_run, is_free_run, is_apart, with_block, subs_for, opened_at, with_header_block, opening_of, blank, zeros}
+use Rattle.eleos_trace.specs.declared.header.NamedBlock.{NamedBlock}
+use Rattle.eleos_trace.specs.Blocks.{with_blocks, has_space}
+use Rattle.eleos_trace.specs.Rooms.{less_block, left_by, free_behind}
 
--- the second of two tests, of a value behind both
-second_test : {A : Type 0} (a b : Bool) (r : Result A Why) (p q : Why) (y : A) → cond a (cond b r (Err q)) (Err p) ≡ Ok y → b ≡ true
-second_test a b r p q y e = (guard_ok b r q y (guard_ok a (cond b r (Err q)) p y e).1).0
+by_test : {A : Type 0} (b : Bool) → (b ≡ true → A) → (b ≡ false → A) → A
+by_test true holds fails = holds refl
+by_test false holds fails = fails refl
 
--- there is room for one more command
-room : (seen : Seen) → has_room seen ≡ true → seen.commands < 100000
-room seen has = grind (arith, nat_tests)
+is_le : (a b : ℕ) → a ≤ b → nat_le a b ≡ true
+is_le a b le = grind (arith, nat_tests)
 
-module _ (seen : Seen) (args : List (List ℕ)) (word : Word) where
-  module _ (actor : List ℕ) where
-    alloc_ok : alloc_of actor seen args ≡ Ok word → seen.commands < 100000
-    alloc_ok e = let a = bind_ok (two args) _ word e in room seen (second_test _ _ _ _ _ word a.2)
+not_le : (a b : ℕ) → b < a → nat_le a b ≡ false
+not_le a b lt = grind (arith, nat_tests)
 
-    free_ok : free_of actor seen args ≡ Ok word → seen.commands < 100000
-    free_ok e = let a = bind_ok (one args) _ word e in room seen (second_test _ _ _ _ _ word a.2)
+not_lt : (a b : ℕ) → b ≤ a → nat_lt a b ≡ false
+not_lt a b le = grind (arith, nat_tests)
 
-    read_ok : read_of actor seen args ≡ Ok word → seen.commands < 100000
-    read_ok e = let a = bind_ok (three args) _ word e in room seen (second_test _ _ _ _ _ word a.2)
+le_of : (a b : ℕ) → nat_le a b ≡ true → a ≤ b
+le_of a b holds = grind (arith, nat_tests)
 
-    write_ok : (wear : ℕ) → write_of wear actor seen args ≡ Ok word → seen.commands < 100000
-    write_ok wear e = let a = bind_ok (three args) _ word e in room seen (second_test _ _ _ _ _ word a.2)
+lt_of : (a b : ℕ) → nat_le a b ≡ false → b < a
+lt_of a b fails = grind (arith, nat_tests)
 
-    share_ok : share_of actor seen args ≡ Ok word → seen.commands < 100000
-    share_ok e = let a = bind_ok (one args) _ word e in room seen (second_test _ _ _ _ _ word a.2)
+-- the first number that passes
+first_from-found : (test : ℕ → Bool) (count i s : ℕ) → i ≤ s → s < i + count → test s ≡ true → ((t : ℕ) → i ≤ t → t < s → test t ≡ false) → first_from test count i ≡ Some s
+unfolding first_from
+first_from-found test zero i s from within passes none = absurd (omega arith)
+first_from-found test (suc count) i s from within passes none =
+    by_test (nat_le s i) (λ holds. let at : i ≡ s = (let le : s ≤ i = le_of s i holds in omega arith) in rw (at, passes))
+    (λ fails. let lt : i < s = lt_of s i fails in
+    rw (none i (omega arith) lt) (first_from-found test count (i + 1) s (omega arith) (omega arith) passes (λ t above below. none t (omega arith) below)))
 
-    tie_ok : tie_of actor seen args ≡ Ok word → seen.commands < 100000
-    tie_ok e = let a = bind_ok (two args) _ word e in room seen (second_test _ _ _ _ _ word a.2)
+-- no number passes
+first_from-none : (test : ℕ → Bool) (count i : ℕ) → ((t : ℕ) → i ≤ t → t < i + count → test t ≡ false) → first_from test count i ≡ None
+unfolding first_from
+first_from-none test zero i none = refl
+first_from-none test (suc count) i none = rw (none i (omega arith) (omega arith)) (first_from-none test count (i + 1) (λ t above below. none t (omega arith) (omega arith)))
 
-    module _ (machine : Machine) where
-      fill_ok : fill_of machine actor seen args ≡ Ok word → seen.commands < 100000
-      fill_ok e = let a = bind_ok (two args) _ word e in room seen (second_test _ _ _ _ _ word a.2)
+-- ---- blocks one behind the other
 
-      move_ok : move_of machine actor seen args ≡ Ok word → seen.commands < 100000
-      move_ok e = let a = bind_ok (three args) _ word e in room seen (second_test _ _ _ _ _ word a.2)
+-- the blocks are of some sub-pages each, and fill those from the first place up to the last
+abbrev Tiles : ℕ → ℕ → List Live → Type 0
+Tiles from end [] = from ≡ end
+Tiles from end (b ∷ bs) = (b.start ≡ from) × (1 ≤ b.len) × Tiles (from + b.len) end bs
 
-      flip_ok : flip_of machine actor seen args ≡ Ok word → seen.commands < 100000
-      flip_ok e = let a = bind_ok (two args) _ word e in room seen (second_test _ _ _ _ _ word a.2)
+Tiles-le : (from end : ℕ) (bs : List Live) → Tiles from end bs → from ≤ end
+Tiles-le from end [] tiles = omega arith
+Tiles-le from end (b ∷ bs) tiles = let rest : from + b.len ≤ end = Tiles-le (from + b.len) end bs tiles.2 in omega arith
 
-      swap_ok : swap_of machine actor seen args ≡ Ok word → seen.commands < 100000
-      swap_ok e = let a = bind_ok (two args) _ word e in room seen (second_test _ _ _ _ _ word a.2)
+and_false : (b : Bool) → (b && false) ≡ false
+and_false true = refl
+and_false false = refl
 
-      keep_ok : keep_of machine actor seen args ≡ Ok word → seen.commands < 100000
-      keep_ok e = let a = bind_ok (one args) _ word e in room seen (second_test _ _ _ _ _ word a.2)
+-- a run behind them meets none
+apart_behind : (from end start len : ℕ) (bs : List Live) → Tiles from end bs → end ≤ start → list_all (is_apart start len) bs ≡ true
+apart_behind from end start len [] tiles behind = refl
+apart_behind from end start len (b ∷ bs) tiles behind =
+    let first : b.start ≡ from = tiles.0 in
+    let rest : from + b.len ≤ end = Tiles-le (from + b.len) end bs tiles.2 in
+    rw (is_le (b.start + b.len) start (omega arith), apart_behind (from + b.len) end start len bs tiles.2 behind) refl
 
-  point_ok : point_of seen args ≡ Ok word → seen.commands < 100000
-  point_ok e = let a = bind_ok (two args) _ word e in room seen (second_test _ _ _ _ _ word a.2)
+-- a run that starts among them meets one
+met_within : (from end start len : ℕ) (bs : List Live) → Tiles from end bs → 1 ≤ len → from ≤ start → start < end → list_all (is_apart start len) bs ≡ false
+met_within from end start len [] tiles some above below = absurd (omega arith)
+met_within from end start len (b ∷ bs) tiles some above below =
+    let first : b.start ≡ from = tiles.0 in
+    by_test (nat_le (b.start + b.len) start)
+    (λ holds. let past : b.start + b.len ≤ start = le_of _ _ holds in
+    rw (met_within (from + b.len) end start len bs tiles.2 some (omega arith) below) (and_false _))
+    (λ fails. let within : start < b.start + b.len = lt_of _ _ fails in
+    rw (fails, not_le (start + len) b.start (omega arith)) refl)
 
-  link_ok : link_of seen args ≡ Ok word → seen.commands < 100000
-  link_ok e = let a = bind_ok (one args) _ word e in room seen (second_test _ _ _ _ _ word a.2)
+-- one more behind them
+Tiles-with_block : (from end : ℕ) (b : Live) (bs : List Live) → Tiles from end bs → b.start ≡ end → 1 ≤ b.len → Tiles from (end + b.len) (with_block b bs)
+Tiles-with_block from end b [] tiles at some = let is : from ≡ end = tiles in (omega arith, some, omega arith)
+Tiles-with_block from end b (other ∷ others) tiles at some =
+    let first : other.start ≡ from = tiles.0 in
+    let rest : from + other.len ≤ end = Tiles-le (from + other.len) end others tiles.2 in
+    rw (not_lt b.start other.start (omega arith)) (tiles.0, tiles.1, Tiles-with_block (from + other.len) end b others tiles.2 at some)
 
-  step_ok : step_of seen args ≡ Ok word → seen.commands < 100000
-  step_ok e = let a = bind_ok (two args) _ word e in room seen (second_test _ _ _ _ _ word a.2)
+-- the lowest free run is the one behind them, where it has room
+lowest_behind : (subs end len : ℕ) (bs : List Live) → Tiles 0 end bs → 1 ≤ len → lowest_run bs subs len ≡ cond (nat_le (end + len) subs) (Some end) None
+unfolding lowest_run
+lowest_behind subs end len bs tiles some = by_test (nat_le (end + len) subs)
+    (λ holds. let fits : end + len ≤ subs = le_of _ _ holds in
+    rw holds (first_from-found (is_free_run bs subs len) subs 0 end (omega arith) (omega arith) (rw (holds, apart_behind 0 end end len bs tiles (omega arith)) refl)
+    (λ t above below. rw (met_within 0 end t len bs tiles some above below) (and_false _))))
+    (λ fails. let narrow : subs < end + len = lt_of _ _ fails in
+    rw fails (first_from-none (is_free_run bs subs len) subs 0
+    (λ t above below. by_test (nat_le end t)
+    (λ past. let behind : end ≤ t = le_of _ _ past in rw (not_le (t + len) subs (omega arith)) refl)
+    (λ among. rw (met_within 0 end t len bs tiles some above (lt_of _ _ among)) (and_false _)))))
 
-  sread_ok : sread_of seen args ≡ Ok word → seen.commands < 100000
-  sread_ok e = let a = bind_ok (two args) _ word e in room seen (second_test _ _ _ _ _ word a.2)
+-- ---- memory with header blocks
 
-  swrite_ok : swrite_of seen args ≡ Ok word → seen.commands < 100000
-  swrite_ok e = let a = bind_ok (two args) _ word e in room seen (second_test _ _ _ _ _ word a.2)
+-- an enclave of so many sub-pages, of which so many behind its blocks are free
+record IsPacked (subs free : ℕ) (m : EnclaveMemory) : Type 0 where
+  texts : length m.texts ≡ subs
+  within : free ≤ subs
+  tiles : Tiles 0 (subs - free) m.blocks
 
-  balloon_ok : balloon_of seen args ≡ Ok word → seen.commands < 100000
-  balloon_ok e = let a = bind_ok (two args) _ word e in room seen (second_test _ _ _ _ _ word a.2)
+-- some bytes take some sub-pages
+some_subs : (bytes : ℕ) → 1 ≤ bytes → 1 ≤ subs_for 1024 bytes
+some_subs bytes some = grind arith
 
-  call_ok : call_of seen args ≡ Ok word → seen.commands < 100000
-  call_ok e = let a = bind_ok (three args) _ word e in room seen (second_test _ _ _ _ _ word a.2)
+-- one block takes its sub-pages of those that are free
+packed_with : (subs free enclave : ℕ) (m : EnclaveMemory) (block : BlockPlan) → IsPacked subs free m → 1 ≤ block.bytes → (block.enclave == enclave) ≡ true → IsPacked subs (less_block enclave free block) (with_header_block 1024 m block)
+packed_with subs free enclave m block packed some here =
+    let len : ℕ = subs_for 1024 block.bytes in
+    let taken : ℕ = subs - free in
+    let some_len : 1 ≤ len = some_subs block.bytes some in
+    let lowest = lowest_behind subs taken len m.blocks packed.tiles some_len in
+    let whole : free ≤ subs = packed.within in
+    by_test (nat_le len free)
+    (λ holds. let fits : len ≤ free = le_of _ _ holds in
+    let room : nat_le (taken + len) subs ≡ true = is_le _ _ (omega arith) in
+    let end : taken + len ≡ subs - (free - len) = omega arith in
+    let opened : opened_at 1024 block m (Some taken) ≡ with_header_block 1024 m block = rw (packed.texts, lowest, room) refl in
+    let left : free - len ≡ less_block enclave free block = rw (here, holds) refl in
+    rw (← left, ← opened) (record {
+      texts = packed.texts;
+      within = omega arith;
+      tiles = rw (← end) (Tiles-with_block 0 taken _ m.blocks packed.tiles refl some_len);
+    }))
+    (λ fails. let narrow : free < len = lt_of _ _ fails in
+    let none : nat_le (taken + len) subs ≡ false = not_le _ _ (omega arith) in
+    let opened : m ≡ with_header_block 1024 m block = rw (packed.texts, lowest, none) refl in
+    let left : free ≡ less_block enclave free block = rw (here, fails) refl in
+    rw (← left, ← opened) packed)
 
-  -- whatever its verb
-  module _ (verb : List ℕ) where
-    run_command_ok : run_command_of seen verb args ≡ Ok word → seen.commands < 100000
-    run_command_ok e =
-        elim (cond_either (is (codes "point") verb || is (codes "copy") verb) (point_of seen args) _ (Ok word) e) [
-          | inl point ↦ point_ok point
-          | inr others ↦
-              elim (cond_either (is_link verb) (link_of seen args) _ (Ok word) others) [
-                | inl link ↦ link_ok link
-                | inr others ↦
-                    elim (cond_either (is (codes "step") verb) (step_of seen args) _ (Ok word) others) [
-                      | inl step ↦ step_ok step
-                      | inr others ↦
-                          elim (cond_either (is (codes "sread") verb) (sread_of seen args) _ (Ok word) others) [
-                            | inl sread ↦ sread_ok sread
-                            | inr others ↦
-                                elim (cond_either (is (codes "swrite") verb) (swrite_of seen args) _ (Ok word) others) [
-                                  | inl swrite ↦ swrite_ok swrite
-                                  | inr others ↦
-                                      elim (cond_either (is (codes "balloon") verb) (balloon_of seen args) _ (Ok word) others) [
-                                        | inl balloon ↦ balloon_ok balloon
-                                        | inr others ↦
-                                            call_ok (guard_ok (is (codes "call") verb) (call_of seen args) _ word others).1
-                                      ]
-                                ]
-                          ]
-                    ]
-              ]
-        ]
+-- all header blocks take theirs
+packed_behind : (subs enclave : ℕ) (blocks : List NamedBlock) (free : ℕ) (m : EnclaveMemory) → IsPacked subs free m → All (λ named. 1 ≤ named.block.bytes) blocks
+    → IsPacked subs (left_by enclave blocks free) (fold (with_header_block 1024) m (filter (λ block. block.enclave == enclave) (map (λ named. named.block) blocks)))
+packed_behind subs enclave [] free m packed sizes = packed
+packed_behind subs enclave (named ∷ others) free m packed sizes =
+    let rest = All-tail (λ named. 1 ≤ named.block.bytes) named others sizes in
+    by_test (named.block.enclave == enclave)
+    (λ here. rw here (rw here at (packed_behind subs enclave others (less_block enclave free named.block) (with_header_block 1024 m named.block)
+    (packed_with subs free enclave m named.block packed (All-head (λ named. 1 ≤ named.block.bytes) named others sizes) here) rest)))
+    (λ away. rw away (packed_behind subs enclave others free m packed rest))
 
-    module _ (machine : Machine) (actor : List ℕ) where
-      host_command_ok : host_command_of machine actor seen verb args ≡ Ok word → seen.commands < 100000
-      host_command_ok e =
-          elim (cond_either (is (codes "flip") verb) (flip_of machine actor seen args) _ (Ok word) e) [
-            | inl flip ↦ flip_ok actor machine flip
-            | inr others ↦
-                elim (cond_either (is (codes "swap") verb) (swap_of machine actor seen args) _ (Ok word) others) [
-                  | inl swap ↦ swap_ok actor machine swap
-                  | inr others ↦
-                      elim (cond_either (is (codes "keep") verb || is (codes "restore") verb) (keep_of machine actor seen args) _ (Ok word) others) [
-                        | inl keep ↦ keep_ok actor machine keep
-                        | inr others ↦
-                            run_command_ok others
-                      ]
-                ]
-          ]
+-- an item of a list made by place
+map_from-at : {A B : Type 0} (f : ℕ → A → B) (i : ℕ) (xs : List A) (k : ℕ) (x : A) (y : B) → k < length xs → get_or (map_from f i xs) k y ≡ f (i + k) (get_or xs k x)
+map_from-at f i [] k x y lt = absurd (omega arith)
+map_from-at f i (a ∷ rest) zero x y lt = ap (λ n. f n a) (omega arith)
+map_from-at f i (a ∷ rest) (suc k) x y lt = map_from-at f (i + 1) rest k x y (omega arith) ∙ ap (λ n. f n (get_or rest k x)) (omega arith)
 
-      planned_command_ok : planned_command_of machine actor seen verb args ≡ Ok word → seen.commands < 100000
-      planned_command_ok e =
-          elim (cond_either (is (codes "share") verb) (share_of actor seen args) _ (Ok word) e) [
-            | inl share ↦ share_ok actor share
-            | inr others ↦
-                elim (cond_either (is (codes "tie") verb || is (codes "untie") verb) (tie_of actor seen args) _ (Ok word) others) [
-                  | inl tie ↦ tie_ok actor tie
-                  | inr others ↦
-                      elim (cond_either (is (codes "fill") verb || is (codes "evict") verb) (fill_of machine actor seen args) _ (Ok word) others) [
-                        | inl fill ↦ fill_ok actor machine fill
-                        | inr others ↦
-                            elim (cond_either (is (codes "move") verb) (move_of machine actor seen args) _ (Ok word) others) [
-                              | inl move ↦ move_ok actor machine move
-                              | inr others ↦
-                                  host_command_ok others
-                            ]
-                      ]
-                ]
-          ]
-
-      command_ok : command_of machine actor seen verb args ≡ Ok word → seen.commands < 100000
-      command_ok e =
-          elim (cond_either (is (codes "alloc") verb) (alloc_of actor seen args) _ (Ok word) e) [
-            | inl alloc ↦ alloc_ok actor alloc
-            | inr others ↦
-                elim (cond_either (is (codes "free") verb) (free_of actor seen args) _ (Ok word) others) [
-                  | inl free ↦ free_ok actor free
-                  | inr others ↦
-                      elim (cond_either (is (codes "read") verb) (read_of actor seen args) _ (Ok word) others) [
-                        | inl read ↦ read_ok actor read
-                        | inr others ↦
-                            elim (cond_either (is (codes "write") verb) (write_of machine.wear actor seen args) _ (Ok word) others) [
-                              | inl write ↦ write_ok actor machine.wear write
-                              | inr others ↦
-                                  planned_command_ok others
-                            ]
-                      ]
-                ]
-          ]
-
--- and its actor
-pub word_ok : (machine : Machine) (seen : Seen) (words : List (List ℕ)) (word : Word) → word_of machine seen words ≡ Ok word → seen.commands < 100000
-word_ok machine seen words word e =
-    let a = bind_ok (two_and_more words) _ word e in
-    command_ok seen a.0.2 word a.0.1 machine a.0.0 (guard_ok _ _ _ word a.2).1
+-- a block finds room where what is free is enough
+pub has_space-enough : (plan : Plan) (before : List NamedBlock) (enclave bytes : ℕ) → enclave < length plan.enclaves → All (λ named. 1 ≤ named.block.bytes) before → 1 ≤ bytes
+    → nat_le (subs_for 1024 bytes) (free_behind plan enclave before) ≡ has_space (with_blocks plan before) enclave bytes
+unfolding has_space
+has_space-enough plan before enclave bytes within sizes some =
+    let made : EnclavePlan = get_or plan.enclaves enclave (record { pages = 0; frames = 0 }) in
+    let subs : ℕ = subs_in plan enclave made.pages in
+    let blank_packed : IsPacked subs subs (blank 1024 subs) = record { texts = length-replicate subs (zeros 1024); within = omega arith; tiles = omega arith } in
+    let packed = packed_behind subs enclave before subs (blank 1024 subs) blank_packed sizes in
+    let memory = map_from-at (opening_of (with_blocks plan before)) 0 plan.enclaves enclave (record { pages = 0; frames = 0 }) (record { blocks = []; texts = [] }) within in
+    let here : opening_of (with_blocks plan before) enclave made ≡ opening_of (with_blocks plan before) (0 + enclave) made = ap (λ n. opening_of (with_blocks plan before) n made) (omega arith) in
+    let free : ℕ = left_by enclave before subs in
+    let len : ℕ = subs_for 1024 bytes in
+    let lowest = lowest_behind subs (subs - free) len (opening_of (with_blocks plan before) enclave made).blocks packed.tiles (some_subs bytes some) in
+    let left : free ≤ subs = packed.within in
+    rw (memory, ← here, packed.texts, lowest) (enough free subs len left) where
+      enough : (free subs len : ℕ) → free ≤ subs → nat_le len free ≡ is_some (cond (nat_le (subs - free + len) subs) (Some (subs - free)) None)
+      enough free subs len le = by_test (nat_le len free)
+          (λ holds. let fits : len ≤ free = le_of _ _ holds in rw (holds, is_le (subs - free + len) subs (omega arith)) refl)
+          (λ fails. let narrow : free < len = lt_of _ _ fails in rw (fails, not_le (subs - free + len) subs (omega arith)) refl)

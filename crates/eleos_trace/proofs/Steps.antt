@@ -3,7 +3,6 @@ use Rattle.std.proofs.Common.{◌≡◌, ℕ, ◌+◌, List, [], ◌∷◌, ◌+
 use Rattle.std.proofs.lemmas.Bool.Decides.{nat_tests}
 use Rattle.std.specs.List.{slice_split, onto_first}
 use Rattle.std.specs.Str.{bytes_eq}
-use Rattle.eleos_trace.specs.declared.word.Word.{Word}
 use Rattle.eleos_trace.specs.declared.trace.Line.{Line}
 use Rattle.eleos_trace.specs.declared.seen.Seen.{Seen}
 use Rattle.eleos_trace.specs.declared.why.Why.{Why}
@@ -11,10 +10,10 @@ use Rattle.eleos_trace.specs.declared.why.Why.TheVariants.{Cut, After}
 use Rattle.eleos_trace.specs.declared.why.Bad.{Bad}
 use Rattle.eleos_trace.specs.Fields.{is_blank, is_newline}
 use Rattle.eleos_trace.specs.Reasons.{◌>>=◌}
-use Rattle.eleos_trace.specs.Commands.{seen_after}
-use Rattle.eleos_trace.specs.Verbs.{word_of}
-use Rattle.eleos_trace.specs.declared.header.Machine.{Machine}
-use Rattle.eleos_trace.specs.Reading.{commands_of, ended, by_caller}
+use Rattle.eleos_trace.specs.Seen.{seen_after}
+use Rattle.eleos_trace.specs.Verbs.{line_of}
+use Rattle.eleos_trace.specs.declared.header.Header.{Header}
+use Rattle.eleos_trace.specs.Reading.{commands_of, ended}
 use Rattle.eleos_trace.proofs.Texts.{split_cases}
 
 -- these commands, and then the others where there are any
@@ -26,30 +25,30 @@ with_front-push front line (Ok lines) = ap Ok (sym (append_assoc front (line ∷
 with_front-push front line (Err bad) = refl
 
 -- what the loop does at a line: text stands in it, and after behind it
-module _ (machine : Machine) (line : ℕ) (seen : Seen) (text after : List ℕ) where
+module _ (header : Header) (line : ℕ) (seen : Seen) (text after : List ℕ) where
   -- the end
-  pub commands_of-end : bytes_eq text (codes "end") ≡ true → commands_of machine line seen (text ∷ slice_split is_newline after) ≡ ended (line + 1) (slice_split is_newline after)
+  pub commands_of-end : bytes_eq text (codes "end") ≡ true → commands_of header line seen (text ∷ slice_split is_newline after) ≡ ended (line + 1) (slice_split is_newline after)
   unfolding commands_of
-  commands_of-end end = split_cases (λ parts. commands_of machine line seen (text ∷ parts) ≡ ended (line + 1) parts) (λ part parts. rw end) after
+  commands_of-end end = split_cases (λ parts. commands_of header line seen (text ∷ parts) ≡ ended (line + 1) parts) (λ part parts. rw end) after
 
   -- a command
-  pub commands_of-word : (word : Word) → bytes_eq text (codes "end") ≡ false → word_of machine seen (slice_split is_blank text) ≡ Ok word
-      → commands_of machine line seen (text ∷ slice_split is_newline after) ≡ with_front (by_caller word ∷ []) (commands_of machine (line + 1) (seen_after seen word) (slice_split is_newline after))
+  pub commands_of-more : (command : Line) → bytes_eq text (codes "end") ≡ false → line_of header seen (slice_split is_blank text) ≡ Ok command
+      → commands_of header line seen (text ∷ slice_split is_newline after) ≡ with_front (command ∷ []) (commands_of header (line + 1) (seen_after seen command) (slice_split is_newline after))
   unfolding commands_of
-  commands_of-word word go_on is =
-      split_cases (λ parts. commands_of machine line seen (text ∷ parts) ≡ with_front (by_caller word ∷ []) (commands_of machine (line + 1) (seen_after seen word) parts)) (λ part parts. rw (go_on, is) refl) after
+  commands_of-more command go_on is =
+      split_cases (λ parts. commands_of header line seen (text ∷ parts) ≡ with_front (command ∷ []) (commands_of header (line + 1) (seen_after seen command) parts)) (λ part parts. rw (go_on, is) refl) after
 
   -- a bad line
-  pub commands_of-bad : (why : Why) → bytes_eq text (codes "end") ≡ false → word_of machine seen (slice_split is_blank text) ≡ Err why
-      → commands_of machine line seen (text ∷ slice_split is_newline after) ≡ Err (record { line = line; why = why })
+  pub commands_of-bad : (why : Why) → bytes_eq text (codes "end") ≡ false → line_of header seen (slice_split is_blank text) ≡ Err why
+      → commands_of header line seen (text ∷ slice_split is_newline after) ≡ Err (record { line = line; why = why })
   unfolding commands_of
   commands_of-bad why go_on is =
-      split_cases (λ parts. commands_of machine line seen (text ∷ parts) ≡ Err (record { line = line; why = why })) (λ part parts. rw (go_on, is) refl) after
+      split_cases (λ parts. commands_of header line seen (text ∷ parts) ≡ Err (record { line = line; why = why })) (λ part parts. rw (go_on, is) refl) after
 
 -- a last line that no newline ends
-pub commands_of-cut : (machine : Machine) (line : ℕ) (seen : Seen) (text : List ℕ) → commands_of machine line seen (text ∷ []) ≡ Err (record { line = line; why = Cut })
+pub commands_of-cut : (header : Header) (line : ℕ) (seen : Seen) (text : List ℕ) → commands_of header line seen (text ∷ []) ≡ Err (record { line = line; why = Cut })
 unfolding commands_of
-commands_of-cut machine line seen text = refl
+commands_of-cut header line seen text = refl
 
 -- something behind the end
 ended-more : (line c : ℕ) (cs : List ℕ) → ended line (slice_split is_newline (c ∷ cs)) ≡ Err (record { line = line; why = After })

@@ -2,7 +2,7 @@
 use Rattle.std.proofs.Common.{◌≡◌, ℕ, ◌+◌, ◌<◌, ◌≤◌, List, [], ◌∷◌, Some, None, Ok, refl, true, false, Bool, length, take, drop, arith, nat_lt, cond}
 use Rattle.std.specs.List.{slice_split, position, position_or_len, onto_first}
 use Rattle.eleos_trace.specs.Fields.{is_newline, is_blank}
-use Rattle.eleos_trace.specs.Header.{next_words}
+use Rattle.eleos_trace.specs.WholeHeader.{next_words}
 use Rattle.std.proofs.lemmas.Bool.Decides.{nat_tests}
 use Rattle.std.proofs.lemmas.List.Sums.{fails_before_first}
 use Rattle.std.proofs.lemmas.List.Splits.{slice_split_first, slice_split_none}

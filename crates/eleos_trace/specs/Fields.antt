@@ -27,6 +27,10 @@ is_numeral text = nat_le 1 (length text) && (length text == 1 || not (slice_inde
 abbrev pub number : List ℕ → ℕ
 number text = digits_value 10 text
 
+-- it is the numeral of this number
+abbrev pub is_number : ℕ → List ℕ → Bool
+is_number n text = is_numeral text && number text == n
+
 -- it says a number of at most so much
 abbrev pub is_up_to : ℕ → List ℕ → Bool
 is_up_to most text = nat_le (number text) most
@@ -42,6 +46,10 @@ up_to most n = if nat_le n most then Some n else None
 -- the number that a text says, where it is a numeral of at most so much
 abbrev pub number_up_to : ℕ → List ℕ → Option ℕ
 number_up_to most text = if is_numeral text && is_up_to most text then Some (number text) else None
+
+-- the number that a text says, where it is a numeral below this one
+abbrev pub number_below : ℕ → List ℕ → Option ℕ
+number_below limit text = if is_numeral text && is_below limit text then Some (number text) else None
 
 -- the largest number of 32 bits
 abbrev pub most_u32 : ℕ

@@ -1,26 +1,41 @@
 -- What a machine has, and what can be named in it.
-use Rattle.std.specs.Prelude.{ℕ, ◌+◌, List, [], ◌∷◌, Bool, codes}
+use Rattle.std.specs.Prelude.{ℕ, ◌+◌, List, length, Bool, false, ◌&&◌, nat_le, sum_by, Option, Some, None, if◌then◌else◌}
 use Rattle.eleos_base.specs.declared.plan.Plan.{Plan}
+use Rattle.eleos_base.specs.declared.plan.EnclavePlan.{EnclavePlan}
 use Rattle.eleos_base.specs.Plans.{subs_in}
-use Rattle.eleos_trace.specs.declared.header.Machine.{Machine}
-use Rattle.eleos_trace.specs.Fields.{is}
+use Rattle.eleos_trace.specs.declared.word.Actor.{Actor}
+use Rattle.eleos_trace.specs.declared.word.Actor.TheVariants.{Caller}
+use Rattle.eleos_trace.specs.Fields.{is_numeral, number, is_below}
 
--- a machine with one enclave and one caller
-abbrev pub plan_of : Machine → Plan
-plan_of machine = record { enclaves = machine.enclave ∷ []; spare = machine.spare; callers = 0 ∷ []; wear = machine.wear; blocks = [] }
+-- the pages of these enclaves
+abbrev pub pages_of : List EnclavePlan → ℕ
+pages_of enclaves = sum_by (λ enclave. enclave.pages) enclaves
 
--- its sub-pages
-abbrev pub places : Machine → ℕ
-places machine = subs_in (plan_of machine) 0 machine.enclave.pages
+-- the frames of these enclaves
+abbrev pub frames_of : List EnclavePlan → ℕ
+frames_of enclaves = sum_by (λ enclave. enclave.frames) enclaves
+
+-- the pages of a machine
+abbrev pub all_pages : Plan → ℕ
+all_pages plan = pages_of plan.enclaves
 
 -- its frames, those of the pool included
-abbrev pub all_frames : Machine → ℕ
-all_frames machine = machine.enclave.frames + machine.spare
+abbrev pub all_frames : Plan → ℕ
+all_frames plan = frames_of plan.enclaves + plan.spare
 
--- the one enclave; no other is declared
-abbrev pub is_enclave : List ℕ → Bool
-is_enclave text = is (codes "0") text
+-- its sub-pages, each of which has a place of the host
+abbrev pub places : Plan → ℕ
+places plan = subs_in plan 0 (all_pages plan)
 
--- the one caller; no other is declared
-abbrev pub is_caller : List ℕ → Bool
-is_caller actor = is (codes "c1") actor
+-- the number of an enclave that is declared
+abbrev pub is_enclave : List EnclavePlan → List ℕ → Bool
+is_enclave enclaves text = is_numeral text && is_below (length enclaves) text
+
+-- that number, where it is one
+abbrev pub enclave_in : List EnclavePlan → List ℕ → Option ℕ
+enclave_in enclaves text = if is_enclave enclaves text then Some (number text) else None
+
+-- a caller that is declared
+abbrev pub is_caller : Plan → Actor → Bool
+is_caller plan (Caller number) = nat_le 1 number && nat_le number (length plan.callers)
+is_caller plan _ = false

@@ -1,28 +1,21 @@
 -- The meaning of a text: its trace, or its first bad line with the reason.
-use Rattle.std.specs.Prelude.{ℕ, ◌+◌, List, [], ◌∷◌, length, nat_le, Result, Ok, Err, codes, if◌then◌else◌}
+use Rattle.std.specs.Prelude.{ℕ, ◌+◌, List, [], ◌∷◌, length, map, nat_le, Result, Ok, Err, codes, if◌then◌else◌}
 use Rattle.std.specs.List.{slice_split}
-use Rattle.eleos_trace.specs.declared.word.Word.{Word}
-use Rattle.eleos_trace.specs.declared.word.Actor.TheVariants.{Caller}
 use Rattle.eleos_trace.specs.declared.trace.Line.{Line}
 use Rattle.eleos_trace.specs.declared.trace.Trace.{Trace}
 use Rattle.eleos_trace.specs.declared.why.Why.TheVariants.{TooLarge, Cut, After}
 use Rattle.eleos_trace.specs.declared.why.Bad.{Bad}
 use Rattle.eleos_trace.specs.declared.seen.Seen.{Seen}
-use Rattle.eleos_trace.specs.declared.header.Machine.{Machine}
+use Rattle.eleos_trace.specs.declared.header.Header.{Header}
 use Rattle.eleos_trace.specs.Fields.{is, is_blank, is_newline}
 use Rattle.eleos_trace.specs.Reasons.{at_line, ◌>>=◌}
-use Rattle.eleos_trace.specs.Machines.{plan_of}
-use Rattle.eleos_trace.specs.Commands.{nothing_seen, seen_after}
-use Rattle.eleos_trace.specs.Verbs.{word_of}
-use Rattle.eleos_trace.specs.Header.{header_of, header_lines}
+use Rattle.eleos_trace.specs.Seen.{nothing_seen, seen_after}
+use Rattle.eleos_trace.specs.Verbs.{line_of}
+use Rattle.eleos_trace.specs.WholeHeader.{header_of, header_lines, plan_of}
 
 -- bytes of a text
 abbrev pub most_text : ℕ
 most_text = 16777216
-
--- a command of the one caller
-abbrev pub by_caller : Word → Line
-by_caller word = record { actor = Caller 1; command = word }
 
 -- what stands behind the end line: nothing
 abbrev pub ended : ℕ → List (List ℕ) → Result (List Line) Bad
@@ -30,20 +23,24 @@ ended line ([] ∷ []) = Ok []
 ended line texts = Err (record { line = line; why = After })
 
 -- the commands of these lines, the first of which has this number, after what was seen before
-unfoldable pub commands_of : Machine → ℕ → Seen → List (List ℕ) → Result (List Line) Bad
-commands_of machine line seen [] = Err (record { line = line; why = Cut })
-commands_of machine line seen (text ∷ []) = Err (record { line = line; why = Cut })
-commands_of machine line seen (text ∷ next ∷ texts) = if is (codes "end") text then ended (line + 1) (next ∷ texts) else do
-  word ← at_line line (word_of machine seen (slice_split is_blank text))
-  lines ← commands_of machine (line + 1) (seen_after seen word) (next ∷ texts)
-  Ok (by_caller word ∷ lines)
+unfoldable pub commands_of : Header → ℕ → Seen → List (List ℕ) → Result (List Line) Bad
+commands_of header line seen [] = Err (record { line = line; why = Cut })
+commands_of header line seen (text ∷ []) = Err (record { line = line; why = Cut })
+commands_of header line seen (text ∷ next ∷ texts) = if is (codes "end") text then ended (line + 1) (next ∷ texts) else do
+  command ← at_line line (line_of header seen (slice_split is_blank text))
+  lines ← commands_of header (line + 1) (seen_after seen command) (next ∷ texts)
+  Ok (command ∷ lines)
+
+-- the trace with this header and these commands
+abbrev pub trace_with : Header → List Line → Trace
+trace_with header lines = record { plan = plan_of header; key = header.key; names = map (λ named. named.name) header.blocks; lines = lines }
 
 -- the trace of these lines
 unfoldable pub lines_of : List (List ℕ) → Result Trace Bad
 lines_of texts = do
   header ← header_of texts
-  lines ← commands_of header.0.machine (header_lines + 1) nothing_seen header.1
-  Ok (record { plan = plan_of header.0.machine; key = header.0.key; lines = lines })
+  lines ← commands_of header.0 (header_lines header.0 + 1) (nothing_seen header.0) header.1
+  Ok (trace_with header.0 lines)
 
 -- the trace of a text
 unfoldable pub trace_of : List ℕ → Result Trace Bad

@@ -1,17 +1,59 @@
 -- What every trace of kind replay keeps to.
-use Rattle.std.specs.Prelude.{◌≡◌, ℕ, ◌≤◌, [], length, All}
+use Rattle.std.specs.Prelude.{◌≡◌, ℕ, ◌≤◌, ◌<◌, List, length, All, Option, Some, None}
+use Rattle.eleos_base.specs.declared.plan.Plan.{Plan}
+use Rattle.eleos_base.specs.AesKey.{IsKeyLength}
 use Rattle.eleos_base.specs.Plans.{IsGood, IsCaller}
-use Rattle.eleos_trace.specs.declared.word.Actor.{Actor}
-use Rattle.eleos_trace.specs.declared.word.Actor.TheVariants.{Caller}
+use Rattle.eleos_trace.specs.declared.word.Actor as actors
+use Rattle.eleos_trace.specs.declared.word.Actor.TheVariants.{Caller, Swapper, Balloon, Host}
+use Rattle.eleos_trace.specs.declared.word.Word.{Word}
+use Rattle.eleos_trace.specs.declared.word.Word.TheVariants.{Alloc, Free, Share, Read, Write, Tie, Untie, Fill, Evict, Move, Flip, SwapPlaces, Keep, Restore}
+use Rattle.eleos_trace.specs.declared.trace.Line.{Line}
 use Rattle.eleos_trace.specs.declared.trace.Trace.{Trace}
+use Rattle.eleos_trace.specs.Blocks.{EachFindsRoom}
+use Rattle.eleos_trace.specs.Machines.{all_pages, all_frames, places}
 
 -- the number of a caller
-abbrev pub number_of : Actor → ℕ
+abbrev pub number_of : actors.Actor → ℕ
 number_of (Caller number) = number
+number_of _ = 0
 
--- a good plan without header blocks, and not too many commands, all by callers of the plan
+-- a caller of the plan
+abbrev pub IsCallerOf : Plan → actors.Actor → Type 0
+IsCallerOf plan (Caller number) = IsCaller plan number
+IsCallerOf plan _ = ⊥
+
+-- one of both is the pool, and the other an enclave of the plan
+abbrev pub IsMove : Plan → Option ℕ → Option ℕ → Type 0
+IsMove plan None (Some to) = to < length plan.enclaves
+IsMove plan (Some from) None = from < length plan.enclaves
+IsMove plan _ _ = ⊥
+
+-- the actor may give the command, whose pages, frames and places are in the machine
+abbrev pub MayGive : Plan → actors.Actor → Word → Type 0
+MayGive plan who (Alloc name bytes) = IsCallerOf plan who
+MayGive plan who (Free name) = IsCallerOf plan who
+MayGive plan who (Share name) = IsCallerOf plan who
+MayGive plan who (Read name offset len) = IsCallerOf plan who
+MayGive plan who (Write name offset bytes) = IsCallerOf plan who × (length bytes ≤ 2048)
+MayGive plan who (Tie name offset) = IsCallerOf plan who
+MayGive plan who (Untie name offset) = IsCallerOf plan who
+MayGive plan who (Fill page frame) = (who ≡ Swapper) × (page < all_pages plan) × (frame < all_frames plan)
+MayGive plan who (Evict page frame) = (who ≡ Swapper) × (page < all_pages plan) × (frame < all_frames plan)
+MayGive plan who (Move frame from to) = (who ≡ Balloon) × (frame < all_frames plan) × IsMove plan from to
+MayGive plan who (Flip place bit) = (who ≡ Host) × (place < places plan) × (bit < 8192)
+MayGive plan who (SwapPlaces a b) = (who ≡ Host) × (a < places plan) × (b < places plan)
+MayGive plan who (Keep place) = (who ≡ Host) × (place < places plan)
+MayGive plan who (Restore place) = (who ≡ Host) × (place < places plan)
+
+-- not too many commands, each by an actor that may give it
+pub record AreGiven (plan : Plan) (lines : List Line) : Type 0 where
+  pub each : All (λ line. MayGive plan line.actor line.command) lines
+  pub few : length lines ≤ 100000
+
+-- a good plan with room for its header blocks, a key of a good length, a name for each block, and commands that the actors may give
 pub record IsReplay (trace : Trace) : Type 0 where
   pub good : IsGood trace.plan
-  pub no_blocks : trace.plan.blocks ≡ []
-  pub lines : All (λ line. IsCaller trace.plan (number_of line.actor)) trace.lines
-  pub few : length trace.lines ≤ 100000
+  pub room : EachFindsRoom trace.plan
+  pub key : IsKeyLength (length trace.key)
+  pub names : length trace.names ≡ length trace.plan.blocks
+  pub lines : AreGiven trace.plan trace.lines

@@ -6,7 +6,7 @@ use Rattle.eleos_trace.specs.declared.why.Why.{Why}
 use Rattle.eleos_trace.specs.declared.why.Why.TheVariants.{Form, Many, Actor}
 use Rattle.eleos_trace.specs.Fields.{is, is_numeral, is_name, is_hex}
 use Rattle.eleos_trace.specs.Reasons.{refusal, with_one, with_two, with_three}
-use Rattle.eleos_trace.specs.Commands.{has_room}
+use Rattle.eleos_trace.specs.Seen.{has_room}
 
 -- a numeral, or a minus before one that is not zero
 abbrev pub is_signed : List ℕ → Bool

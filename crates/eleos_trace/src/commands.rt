@@ -1,35 +1,32 @@
-// Commands of a caller from the words of their lines.
+// Commands of a caller on its memory, from the words of their lines.
 ghost use Rattle.std.specs.Prelude.{◌≡◌, List, ℕ, map};
-ghost use Rattle.eleos_trace.specs.Commands.{alloc_of, free_of, read_of, write_of};
-ghost use Rattle.eleos_trace.specs.Machines.{is_caller};
+ghost use Rattle.eleos_trace.specs.Commands.{alloc_of, name_of, free_of, share_of};
+ghost use Rattle.eleos_trace.specs.Commands.{read_of, write_of};
 ghost use Rattle.eleos_trace.specs.Reasons.{Reads};
 
 use crate::counts::{one, three, two};
 use crate::fields::{hex_bytes, is_name, is_numeral, number_u32};
+use crate::header::Header;
+use crate::machines::is_caller;
 use crate::seen::Seen;
 use crate::why::{LineRefused, refused};
-use crate::{Why, Word};
+use crate::{Actor, Why, Word};
 use eleos_base::Bytes;
 use std::alloc::Global;
 
 /// Bytes of a write.
 const MOST_BYTES: usize = 2048;
 
-/// The one caller; no other is declared.
-pub(crate) fn is_caller(actor: &[u8]) -> bool
-    ensures { result ≡ is_caller actor.now }
-{
-    actor == b"c1".as_slice()
-}
-
+/// `alloc NAME N` binds a new name.
 pub(crate) fn alloc_of(
     alloc: Global,
-    actor: &[u8],
+    header: &Header,
     seen: &Seen,
+    actor: Actor,
     args: &[&[u8]],
 ) -> Result<Word, LineRefused>
     ensures { Reads (λ word. word) result
-        (alloc_of actor.now seen.now (map (λ arg. arg.now) args.now)) }
+        (alloc_of header.now seen.now actor (map (λ arg. arg.now) args.now)) }
 {
     let (name, bytes) = two(args)?;
     if !is_name(name) || !is_numeral(bytes) {
@@ -38,27 +35,29 @@ pub(crate) fn alloc_of(
     if !seen.has_room() {
         return refused(Why::Many);
     }
-    if !is_caller(actor) {
+    if !is_caller(&header.plan, actor) {
         return refused(Why::Actor);
     }
     let Some(bytes) = number_u32(bytes) else {
         return refused(Why::Range);
     };
-    if seen.is_bound(name) {
+    if seen.is_bound(header, actor, name) {
         return refused(Why::Name);
     }
     let name = Bytes::of(name.to_vec(alloc)?);
     Ok(Word::Alloc { name, bytes })
 }
 
-pub(crate) fn free_of(
+/// The name alone, which is bound.
+fn name_of(
     alloc: Global,
-    actor: &[u8],
+    header: &Header,
     seen: &Seen,
+    actor: Actor,
     args: &[&[u8]],
-) -> Result<Word, LineRefused>
-    ensures { Reads (λ word. word) result
-        (free_of actor.now seen.now (map (λ arg. arg.now) args.now)) }
+) -> Result<Bytes, LineRefused>
+    ensures { Reads (λ name. name) result
+        (name_of header.now seen.now actor (map (λ arg. arg.now) args.now)) }
 {
     let name = one(args)?;
     if !is_name(name) {
@@ -67,24 +66,55 @@ pub(crate) fn free_of(
     if !seen.has_room() {
         return refused(Why::Many);
     }
-    if !is_caller(actor) {
+    if !is_caller(&header.plan, actor) {
         return refused(Why::Actor);
     }
-    if !seen.is_bound(name) {
+    if !seen.is_bound(header, actor, name) {
         return refused(Why::Name);
     }
-    let name = Bytes::of(name.to_vec(alloc)?);
-    Ok(Word::Free { name })
+    Ok(Bytes::of(name.to_vec(alloc)?))
 }
 
-pub(crate) fn read_of(
+/// `free NAME`
+pub(crate) fn free_of(
     alloc: Global,
-    actor: &[u8],
+    header: &Header,
     seen: &Seen,
+    actor: Actor,
     args: &[&[u8]],
 ) -> Result<Word, LineRefused>
     ensures { Reads (λ word. word) result
-        (read_of actor.now seen.now (map (λ arg. arg.now) args.now)) }
+        (free_of header.now seen.now actor (map (λ arg. arg.now) args.now)) }
+{
+    let name = name_of(alloc, header, seen, actor, args)?;
+    Ok(Word::Free { name })
+}
+
+/// `share NAME`
+pub(crate) fn share_of(
+    alloc: Global,
+    header: &Header,
+    seen: &Seen,
+    actor: Actor,
+    args: &[&[u8]],
+) -> Result<Word, LineRefused>
+    ensures { Reads (λ word. word) result
+        (share_of header.now seen.now actor (map (λ arg. arg.now) args.now)) }
+{
+    let name = name_of(alloc, header, seen, actor, args)?;
+    Ok(Word::Share { name })
+}
+
+/// `read NAME OFFSET N`
+pub(crate) fn read_of(
+    alloc: Global,
+    header: &Header,
+    seen: &Seen,
+    actor: Actor,
+    args: &[&[u8]],
+) -> Result<Word, LineRefused>
+    ensures { Reads (λ word. word) result
+        (read_of header.now seen.now actor (map (λ arg. arg.now) args.now)) }
 {
     let (name, offset, len) = three(args)?;
     if !is_name(name) || !is_numeral(offset) || !is_numeral(len) {
@@ -93,29 +123,29 @@ pub(crate) fn read_of(
     if !seen.has_room() {
         return refused(Why::Many);
     }
-    if !is_caller(actor) {
+    if !is_caller(&header.plan, actor) {
         return refused(Why::Actor);
     }
     let (Some(offset), Some(len)) = (number_u32(offset), number_u32(len)) else {
         return refused(Why::Range);
     };
-    if !seen.is_bound(name) {
+    if !seen.is_bound(header, actor, name) {
         return refused(Why::Name);
     }
     let name = Bytes::of(name.to_vec(alloc)?);
     Ok(Word::Read { name, offset, len })
 }
 
-/// A write, where a sub-page may be sealed `wear` times.
+/// `write NAME OFFSET HEX`
 pub(crate) fn write_of(
     alloc: Global,
-    wear: u64,
-    actor: &[u8],
+    header: &Header,
     seen: &Seen,
+    actor: Actor,
     args: &[&[u8]],
 ) -> Result<Word, LineRefused>
     ensures { Reads (λ word. word) result
-        (write_of wear actor.now seen.now (map (λ arg. arg.now) args.now)) }
+        (write_of header.now seen.now actor (map (λ arg. arg.now) args.now)) }
 {
     let (name, offset, text) = three(args)?;
     if !is_name(name) || !is_numeral(offset) {
@@ -127,7 +157,7 @@ pub(crate) fn write_of(
     if !seen.has_room() {
         return refused(Why::Many);
     }
-    if !is_caller(actor) {
+    if !is_caller(&header.plan, actor) {
         return refused(Why::Actor);
     }
     let Some(offset) = number_u32(offset) else {
@@ -136,11 +166,8 @@ pub(crate) fn write_of(
     if bytes.len() > MOST_BYTES {
         return refused(Why::Range);
     }
-    if !seen.is_bound(name) {
+    if !seen.is_bound(header, actor, name) {
         return refused(Why::Name);
-    }
-    if u64::from(seen.writes) >= wear {
-        return refused(Why::Later);
     }
     let name = Bytes::of(name.to_vec(alloc)?);
     Ok(Word::Write {

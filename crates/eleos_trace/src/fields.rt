@@ -1,7 +1,7 @@
 // Numbers, names and bytes.
 ghost use Rattle.std.specs.Prelude.{◌≡◌, ◌+◌, ◌*◌, List, ℕ, IfOk, IsTrue};
 ghost use Rattle.eleos_trace.specs.Fields.{is_numeral, up_to, number_up_to, most_u32};
-ghost use Rattle.eleos_trace.specs.Fields.{is_up_to, is_below, is_hex};
+ghost use Rattle.eleos_trace.specs.Fields.{is_up_to, is_number, number_below, is_hex};
 ghost use Rattle.eleos_trace.specs.Fields.{is_name, is_name_char, hex_bytes};
 ghost use Rattle.std.specs.List.{list_all};
 ghost use Rattle.std.specs.Char.{is_ascii_digit};
@@ -50,15 +50,23 @@ pub fn is_up_to(text: &[u8], most: u64) -> bool
     number_up_to(text, most).is_some()
 }
 
-/// Whether the numeral says a number below this one.
-pub fn is_below(text: &[u8], limit: u64) -> bool
-    requires { IsTrue (is_numeral text.now) }
-    ensures { result ≡ is_below limit text.now }
+/// A number below this one.
+pub fn number_below(text: &[u8], limit: u32) -> Option<u32>
+    ensures { result ≡ number_below limit text.now }
 {
-    match number_up_to(text, limit) {
-        Some(number) => number < limit,
-        None => false,
+    let number = number_up_to(text, u64::from(limit))?;
+    if number < u64::from(limit) {
+        Some(number as u32)
+    } else {
+        None
     }
+}
+
+/// Whether the text is the numeral of this number.
+pub fn is_number(text: &[u8], n: u32) -> bool
+    ensures { result ≡ is_number n text.now }
+{
+    number_up_to(text, u64::from(n)) == Some(u64::from(n))
 }
 
 /// Whether the text is a number without a leading zero.

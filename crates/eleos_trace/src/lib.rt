@@ -1,16 +1,20 @@
 //! Traces: the machine, the key and the commands of a text, or its first bad line with the reason.
 #![tactic(auto)]
 
+mod actors;
 mod commands;
 pub mod counts;
 pub mod fields;
+mod frames;
 mod header;
+mod host;
+mod machines;
 mod names;
-mod planned;
 mod reading;
 mod run_forms;
 mod seen;
 pub mod splits;
+mod ties;
 mod trace;
 mod verbs;
 mod why;

@@ -1,30 +1,26 @@
 // A trace from its bytes.
-ghost use Rattle.std.specs.Prelude.{◌≡◌, ◌≤◌, ◌+◌, [], codes, length, IfOk};
+ghost use Rattle.std.specs.Prelude.{◌≡◌, ◌≤◌, ◌+◌, [], codes, length, map, IfOk};
 ghost use Rattle.std.specs.List.{slice_split};
 ghost use Rattle.std.specs.Str.{bytes_eq};
-ghost use Rattle.eleos_trace.specs.Commands.{nothing_seen};
 ghost use Rattle.eleos_trace.specs.Fields.{is_newline};
-ghost use Rattle.eleos_trace.specs.Header.{header_lines};
+ghost use Rattle.eleos_trace.specs.WholeHeader.{header_lines, plan_of, IsGoodHeader};
 ghost use Rattle.eleos_trace.specs.Reasons.{Gives};
 ghost use Rattle.eleos_trace.specs.Reading.{trace_of, lines_of, commands_of, ended};
-ghost use Rattle.eleos_trace.specs.Machines.{plan_of};
-ghost use Rattle.eleos_trace.specs.Reading.{by_caller, most_text};
-ghost use Rattle.eleos_trace.specs.Replays.{IsReplay};
+ghost use Rattle.eleos_trace.specs.Reading.{trace_with, most_text};
+ghost use Rattle.eleos_trace.specs.Replays.{AreGiven, IsReplay};
+ghost use Rattle.eleos_trace.specs.Seen.{nothing_seen};
 
-use crate::header::{Machine, header_of};
+use crate::header::{Header, NamedBlock, header_lines, header_of};
 use crate::seen::Seen;
 use crate::splits::{first_line, words_of};
-use crate::verbs::word_of;
+use crate::verbs::line_of;
 use crate::why::at_line;
-use crate::{Actor, Line, Trace, TraceRefused, Why, Word};
-use eleos_base::{List, Plan};
+use crate::{Line, Trace, TraceRefused, Why};
+use eleos_base::{BlockPlan, Bytes, List};
 use std::alloc::{AllocError, Global};
 
 /// Bytes of a text.
 const MOST_TEXT: usize = 16_777_216;
-
-/// Lines of a header.
-const HEADER_LINES: u32 = 7;
 
 /// The trace of a text, or its first bad line.
 #[tactic(auto, unfolding(crate::specs::Reading::trace_of))]
@@ -44,51 +40,67 @@ pub fn parse(alloc: Global, bytes: &[u8]) -> Result<Trace, TraceRefused>
 #[tactic(auto, unfolding(crate::specs::Reading::lines_of))]
 fn trace_in(alloc: Global, text: &[u8]) -> Result<Trace, TraceRefused>
     requires { length text.now ≤ most_text }
-    ensures { Gives (λ trace. trace) result (lines_of (slice_split is_newline text.now)) }
+    ensures given { Gives (λ trace. trace) result (lines_of (slice_split is_newline text.now)) }
+    ensures good { IfOk result (λ trace. IsReplay trace) }
 {
     let (header, text) = header_of(alloc, text)?;
-    let lines = commands_of(alloc, &header.machine, text)?;
-    let plan = plan_of(alloc, &header.machine)?;
+    let lines = commands_of(alloc, &header, text)?;
+    Ok(trace_with(alloc, header, lines)?)
+}
+
+/// The trace with this header and these commands.
+fn trace_with(alloc: Global, header: Header, lines: Vec<Line>) -> Result<Trace, AllocError>
+    ensures { IfOk result (λ trace. trace ≡ trace_with header lines.items) }
+{
+    let Header { plan, key, blocks } = header;
+    let mut plan = plan;
+    let (names, blocks) = parted(alloc, blocks.into_vec())?;
+    plan.blocks = List::of(blocks);
     Ok(Trace {
         plan,
-        key: header.key,
+        key,
+        names: List::of(names),
         lines: List::of(lines),
     })
 }
 
-/// A machine with one enclave and one caller.
-fn plan_of(alloc: Global, machine: &Machine) -> Result<Plan, AllocError>
-    ensures { IfOk result (λ plan. plan ≡ plan_of machine.now) }
+/// The names of header blocks, and the blocks, both in their order.
+fn parted(alloc: Global, all: Vec<NamedBlock>) -> Result<(Vec<Bytes>, Vec<BlockPlan>), AllocError>
+    ensures names { IfOk result (λ x. x.0.items ≡ map (λ named. named.name) all.items) }
+    ensures blocks { IfOk result (λ x. x.1.items ≡ map (λ named. named.block) all.items) }
 {
-    Ok(Plan {
-        enclaves: List::of(vec![in alloc; machine.enclave]?),
-        spare: machine.spare,
-        callers: List::of(vec![in alloc; 0]?),
-        wear: machine.wear,
-        blocks: List::of(Vec::new(alloc)),
-    })
+    let mut names = Vec::new(alloc);
+    let mut blocks = Vec::new(alloc);
+    for named in all {
+        let NamedBlock { name, block } = named;
+        names.push(name)?;
+        blocks.push(block)?;
+    }
+    Ok((names, blocks))
 }
 
 /// The commands behind a header, up to the `end` line.
-fn commands_of(alloc: Global, machine: &Machine, text: &[u8]) -> Result<Vec<Line>, TraceRefused>
-    requires { length text.now ≤ most_text }
-    ensures { Gives (λ lines. lines.items) result
-        (commands_of machine.now (header_lines + 1) nothing_seen
+fn commands_of(alloc: Global, header: &Header, text: &[u8]) -> Result<Vec<Line>, TraceRefused>
+    requires good { IsGoodHeader header.now }
+    requires few { length text.now ≤ most_text }
+    ensures given { Gives (λ lines. lines.items) result
+        (commands_of header.now (header_lines header.now + 1) (nothing_seen header.now)
         (slice_split is_newline text.now)) }
+    ensures good { IfOk result (λ lines. AreGiven (plan_of header.now) lines.items) }
 {
-    let mut seen = Seen::nothing(alloc);
+    let mut seen = Seen::nothing(alloc, header)?;
     let mut lines = Vec::new(alloc);
     let mut rest = text;
-    let mut line = HEADER_LINES + 1;
+    let mut line = header_lines(header) + 1;
     while let Some((front, after)) = first_line(rest) {
         if is_end(front) {
             nothing_after(line + 1, after)?;
             return Ok(lines);
         }
         let words = words_of(alloc, front)?;
-        let word = at_line(line, word_of(alloc, machine, &seen, &words))?;
-        seen.add(alloc, &word)?;
-        lines.push(by_caller(word))?;
+        let command = at_line(line, line_of(alloc, header, &seen, &words))?;
+        seen.add(alloc, &command)?;
+        lines.push(command)?;
         rest = after;
         line += 1;
     }
@@ -116,15 +128,5 @@ pub fn nothing_after(line: u32, after: &[u8]) -> Result<(), TraceRefused>
             line,
             why: Why::After,
         })
-    }
-}
-
-/// A command of the one caller.
-fn by_caller(command: Word) -> Line
-    ensures { result ≡ by_caller command }
-{
-    Line {
-        actor: Actor::Caller(1),
-        command,
     }
 }

@@ -1,55 +1,63 @@
 // What was seen of a trace so far.
-ghost use Rattle.std.specs.Prelude.{◌≡◌, ◌<◌, ◌^◌, OnOk};
-ghost use Rattle.eleos_trace.specs.Commands.{nothing_seen, seen_after, is_bound, has_room};
+ghost use Rattle.std.specs.Prelude.{◌≡◌, ◌<◌, ◌^◌, IfOk, OnOk};
+ghost use Rattle.eleos_trace.specs.Seen.{nothing_seen, seen_after, is_bound, has_room};
 
-use crate::Word;
-use crate::names::Names;
+use crate::header::{Header, has_name};
+use crate::machines::enclave_of;
+use crate::names::ByCaller;
+use crate::{Actor, Line, Word};
 use std::alloc::{AllocError, Global};
 
 /// Commands of a trace.
 const MOST_COMMANDS: u32 = 100_000;
 
-/// The names that are bound, and how many commands and writes there were.
+/// The names that each caller has bound, and how many commands there were.
 #[derive(Drop)]
 pub struct Seen {
-    pub names: Names,
+    pub names: ByCaller,
     pub commands: u32,
-    pub writes: u32,
 }
 
 impl Seen {
-    pub fn nothing(alloc: Global) -> Self
-        ensures { result ≡ nothing_seen }
+    pub(crate) fn nothing(alloc: Global, header: &Header) -> Result<Self, AllocError>
+        ensures { IfOk result (λ seen. seen ≡ nothing_seen header.now) }
     {
-        Seen {
-            names: Names::new(alloc),
+        Ok(Seen {
+            names: ByCaller::of(alloc, header.plan.callers.len())?,
             commands: 0,
-            writes: 0,
+        })
+    }
+
+    /// Whether the actor may use the name: a caller's own, or one of the header for its enclave.
+    pub(crate) fn is_bound(&self, header: &Header, actor: Actor, name: &[u8]) -> bool
+        ensures { result ≡ is_bound header.now self.now actor name.now }
+    {
+        match actor {
+            Actor::Caller(number) => {
+                self.names.has(number, name)
+                    || has_name(
+                        header.blocks.as_slice(),
+                        enclave_of(&header.plan, number),
+                        name,
+                    )
+            }
+            Actor::Swapper | Actor::Balloon | Actor::Host => false,
         }
     }
 
-    pub fn is_bound(&self, name: &[u8]) -> bool
-        ensures { result ≡ is_bound self.now name.now }
-    {
-        self.names.has(name)
-    }
-
-    pub fn has_room(&self) -> bool
+    pub(crate) fn has_room(&self) -> bool
         ensures { result ≡ has_room self.now }
     {
         self.commands < MOST_COMMANDS
     }
 
     /// Takes in a command.
-    pub fn add(&mut self, alloc: Global, word: &Word) -> Result<(), AllocError>
-        requires commands { self.old.commands < 2 ^ 31 }
-        requires writes { self.old.writes < 2 ^ 31 }
-        ensures { OnOk result (self.new ≡ seen_after self.old word.now) }
+    pub(crate) fn add(&mut self, alloc: Global, line: &Line) -> Result<(), AllocError>
+        requires { self.old.commands < 2 ^ 31 }
+        ensures { OnOk result (self.new ≡ seen_after self.old line.now) }
     {
-        match word {
-            Word::Alloc { name, .. } => self.names.add(alloc, name.as_slice())?,
-            Word::Write { .. } => self.writes += 1,
-            Word::Free { .. } | Word::Read { .. } => {}
+        if let (Actor::Caller(number), Word::Alloc { name, .. }) = (line.actor, &line.command) {
+            self.names.add(alloc, number, name.as_slice())?;
         }
         self.commands += 1;
         Ok(())

@@ -1,70 +1,64 @@
 use super::*;
-use eleos_base::EnclavePlan;
+use eleos_base::{BlockPlan, EnclavePlan};
+use std::alloc::Global;
 use std::test::*;
 
-mod refusals;
+mod commands;
+mod headers;
 
-/// The header, lines 1 to 7, of a machine whose sub-pages may be sealed twice.
+/// The header, lines 1 to 13, of a machine with two enclaves, of 4 and 2 pages, 4 frames and three callers.
 const HEADER: &str = "eleos 1 replay
 enclave 0 pages 4 frames 2
+enclave 1 pages 2 frames 1
 spare 1
 caller 1 enclave 0
+caller 2 enclave 1
+caller 3 enclave 0
 wear 2
 key 000102030405060708090a0b0c0d0e0F
+block top enclave 0 bytes 1024 owner 0
+block low enclave 0 bytes 1 owner 3
+block top enclave 1 bytes 2048 owner 2
 start
 ";
 
 #[test]
-fn reads_each_command(rt: HostRuntime) -> Result<(), Fail> {
+fn reads_a_header(rt: HostRuntime) -> Result<(), Fail> {
     let alloc = rt.alloc();
-    let text = format!(in alloc;
-        "{HEADER}c1 alloc a1 1024\nc1 read a1 0 16\nc1 write a1 4294967295 4aFf\nc1 write a1 0 -\nc1 free a1\nend\n"
-    )?;
+    let text = format!(in alloc; "{HEADER}end\n")?;
     let trace = parse(alloc, text.as_bytes())?;
-    let enclaves = [EnclavePlan {
-        pages: 4,
-        frames: 2,
-    }];
+    let enclaves = [
+        EnclavePlan {
+            pages: 4,
+            frames: 2,
+        },
+        EnclavePlan {
+            pages: 2,
+            frames: 1,
+        },
+    ];
     assert_eq!(rt; trace.plan.enclaves.as_slice(), enclaves.as_slice());
-    assert_eq!(rt; trace.plan.callers.as_slice(), [0].as_slice());
+    assert_eq!(rt; trace.plan.callers.as_slice(), [0, 1, 0].as_slice());
     assert_eq!(rt; (trace.plan.spare, trace.plan.wear), (1, 2));
-    assert_eq!(rt; trace.plan.blocks.len(), 0);
     let key = [0, 1, 2, 3, 4, 5, 6, 7, 8, 9, 10, 11, 12, 13, 14, 15];
     assert_eq!(rt; trace.key.as_slice(), key.as_slice());
-    let mut said = String::new(alloc);
-    for line in trace.lines.as_slice() {
-        let Actor::Caller(who) = line.actor;
-        said.push_str(&format!(in alloc; "{who} ")?)?;
-        said.push_str(&shown(alloc, &line.command)?)?;
-    }
-    assert_eq!(rt;
-        said.as_str(),
-        "1 alloc [97, 49] 1024;1 read [97, 49] 0 16;1 write [97, 49] 4294967295 [74, 255];1 write [97, 49] 0 [];1 free [97, 49];"
-    );
+    let blocks = [block(0, 1024, 0), block(0, 1, 3), block(1, 2048, 2)];
+    assert_eq!(rt; trace.plan.blocks.as_slice(), blocks.as_slice());
+    let names = trace.names.as_slice();
+    assert_eq!(rt; names.len(), 3);
+    assert_eq!(rt; names[0].as_slice(), b"top".as_slice());
+    assert_eq!(rt; names[1].as_slice(), b"low".as_slice());
+    assert_eq!(rt; names[2].as_slice(), b"top".as_slice());
+    assert_eq!(rt; trace.lines.len(), 0);
     Ok(())
 }
 
-fn shown(alloc: std::alloc::Global, word: &Word) -> Result<String, Fail> {
-    Ok(match word {
-        Word::Alloc { name, bytes } => {
-            format!(in alloc; "alloc {:?} {bytes};", name.as_slice())?
-        }
-        Word::Free { name } => format!(in alloc; "free {:?};", name.as_slice())?,
-        Word::Read { name, offset, len } => {
-            format!(in alloc; "read {:?} {offset} {len};", name.as_slice())?
-        }
-        Word::Write {
-            name,
-            offset,
-            bytes,
-        } => {
-            format!(in alloc;
-                "write {:?} {offset} {:?};",
-                name.as_slice(),
-                bytes.as_slice()
-            )?
-        }
-    })
+fn block(enclave: u16, bytes: u32, owner: u32) -> BlockPlan {
+    BlockPlan {
+        enclave,
+        bytes,
+        owner,
+    }
 }
 
 #[test]
@@ -89,14 +83,14 @@ fn refuses_one_command_more(rt: HostRuntime) -> Result<(), Fail> {
     }
     text.push_str("end\n")?;
     let bad = TraceRefused::Bad {
-        line: 100_008,
+        line: 100_014,
         why: Why::Many,
     };
     assert!(rt; is_refused(alloc, text.as_bytes(), bad));
     Ok(())
 }
 
-fn is_refused(alloc: std::alloc::Global, text: &[u8], bad: TraceRefused) -> bool {
+fn is_refused(alloc: Global, text: &[u8], bad: TraceRefused) -> bool {
     match parse(alloc, text) {
         Ok(_) => false,
         Err(refused) => refused == bad,

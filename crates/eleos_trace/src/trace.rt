@@ -10,10 +10,11 @@ pub struct Line {
     pub command: Word,
 }
 
-/// A machine, the key of its seals (16, 24 or 32 bytes), and the commands in their order.
+/// A machine, the key of its seals (16, 24 or 32 bytes), the names of its header blocks in their order, and the commands in theirs.
 #[derive(Debug, Drop)]
 pub struct Trace {
     pub plan: Plan,
     pub key: Bytes,
+    pub names: List<Bytes>,
     pub lines: List<Line>,
 }

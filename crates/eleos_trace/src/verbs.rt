@@ -1,120 +1,116 @@
-// A command by its actor and its verb.
+// A line by its actor and its verb.
 ghost use Rattle.std.specs.Prelude.{◌≡◌, List, ℕ, map};
-ghost use Rattle.eleos_trace.specs.Verbs.{is_caller_word, is_actor, is_link, word_of, command_of};
-ghost use Rattle.eleos_trace.specs.Verbs.{planned_command_of, host_command_of, run_command_of};
+ghost use Rattle.eleos_base.specs.Plans.{IsGood};
+ghost use Rattle.eleos_trace.specs.Verbs.{is_link, line_of, command_of};
+ghost use Rattle.eleos_trace.specs.Verbs.{frame_command_of, host_command_of, run_command_of};
 ghost use Rattle.eleos_trace.specs.Reasons.{Reads};
 
-use crate::commands::{alloc_of, free_of, read_of, write_of};
+use crate::actors::actor_of;
+use crate::commands::{alloc_of, free_of, read_of, share_of, write_of};
 use crate::counts::two_and_more;
-use crate::header::Machine;
-use crate::planned::{fill_of, flip_of, keep_of, move_of, share_of, swap_of, tie_of};
+use crate::frames::{evict_of, fill_of, move_of};
+use crate::header::Header;
+use crate::host::{flip_of, keep_of, restore_of, swap_of};
 use crate::run_forms::{balloon_of, call_of, link_of, point_of, sread_of, step_of, swrite_of};
 use crate::seen::Seen;
+use crate::ties::{tie_of, untie_of};
 use crate::why::{LineRefused, refused};
-use crate::{Why, Word};
+use crate::{Actor, Line, Why, Word};
 use std::alloc::Global;
 
-/// A command by its words.
-pub(crate) fn word_of(
+/// A line by its words.
+pub(crate) fn line_of(
     alloc: Global,
-    machine: &Machine,
+    header: &Header,
     seen: &Seen,
     words: &[&[u8]],
-) -> Result<Word, LineRefused>
-    ensures { Reads (λ word. word) result
-        (word_of machine.now seen.now (map (λ word. word.now) words.now)) }
+) -> Result<Line, LineRefused>
+    requires { IsGood header.now.plan }
+    ensures { Reads (λ line. line) result
+        (line_of header.now seen.now (map (λ word. word.now) words.now)) }
 {
     let (actor, verb, args) = two_and_more(words)?;
-    if !is_actor(actor) {
+    let Some(actor) = actor_of(actor) else {
         return refused(Why::Form);
-    }
-    command_of(alloc, machine, actor, seen, verb, args)
-}
-
-/// Whether it is `c1` to `c8`.
-fn is_caller_word(word: &[u8]) -> bool
-    ensures { result ≡ is_caller_word word.now }
-{
-    word.len() == 2 && word[0] == b'c' && b'1' <= word[1] && word[1] <= b'8'
-}
-
-/// Whether it is a caller, the swapper, the balloon or the host.
-fn is_actor(word: &[u8]) -> bool
-    ensures { result ≡ is_actor word.now }
-{
-    is_caller_word(word)
-        || word == b"s".as_slice()
-        || word == b"b".as_slice()
-        || word == b"h".as_slice()
+    };
+    let command = command_of(alloc, header, seen, actor, verb, args)?;
+    Ok(Line { actor, command })
 }
 
 fn command_of(
     alloc: Global,
-    machine: &Machine,
-    actor: &[u8],
+    header: &Header,
     seen: &Seen,
+    actor: Actor,
     verb: &[u8],
     args: &[&[u8]],
 ) -> Result<Word, LineRefused>
+    requires { IsGood header.now.plan }
     ensures { Reads (λ word. word) result
-        (command_of machine.now actor.now seen.now verb.now (map (λ arg. arg.now) args.now)) }
+        (command_of header.now seen.now actor verb.now (map (λ arg. arg.now) args.now)) }
 {
     if verb == b"alloc".as_slice() {
-        alloc_of(alloc, actor, seen, args)
+        alloc_of(alloc, header, seen, actor, args)
     } else if verb == b"free".as_slice() {
-        free_of(alloc, actor, seen, args)
+        free_of(alloc, header, seen, actor, args)
+    } else if verb == b"share".as_slice() {
+        share_of(alloc, header, seen, actor, args)
     } else if verb == b"read".as_slice() {
-        read_of(alloc, actor, seen, args)
+        read_of(alloc, header, seen, actor, args)
     } else if verb == b"write".as_slice() {
-        write_of(alloc, machine.wear, actor, seen, args)
+        write_of(alloc, header, seen, actor, args)
     } else {
-        planned_command_of(alloc, machine, actor, seen, verb, args)
+        frame_command_of(alloc, header, seen, actor, verb, args)
     }
 }
 
-fn planned_command_of(
+fn frame_command_of(
     alloc: Global,
-    machine: &Machine,
-    actor: &[u8],
+    header: &Header,
     seen: &Seen,
+    actor: Actor,
     verb: &[u8],
     args: &[&[u8]],
 ) -> Result<Word, LineRefused>
+    requires { IsGood header.now.plan }
     ensures { Reads (λ word. word) result
-        (planned_command_of machine.now actor.now seen.now verb.now
-        (map (λ arg. arg.now) args.now)) }
+        (frame_command_of header.now seen.now actor verb.now (map (λ arg. arg.now) args.now)) }
 {
-    if verb == b"share".as_slice() {
-        share_of(actor, seen, args)
-    } else if verb == b"tie".as_slice() || verb == b"untie".as_slice() {
-        tie_of(actor, seen, args)
-    } else if verb == b"fill".as_slice() || verb == b"evict".as_slice() {
-        fill_of(machine, actor, seen, args)
+    if verb == b"tie".as_slice() {
+        tie_of(alloc, header, seen, actor, args)
+    } else if verb == b"untie".as_slice() {
+        untie_of(alloc, header, seen, actor, args)
+    } else if verb == b"fill".as_slice() {
+        fill_of(header, seen, actor, args)
+    } else if verb == b"evict".as_slice() {
+        evict_of(header, seen, actor, args)
     } else if verb == b"move".as_slice() {
-        move_of(machine, actor, seen, args)
+        move_of(header, seen, actor, args)
     } else {
-        host_command_of(alloc, machine, actor, seen, verb, args)
+        host_command_of(alloc, header, seen, actor, verb, args)
     }
 }
 
 fn host_command_of(
     alloc: Global,
-    machine: &Machine,
-    actor: &[u8],
+    header: &Header,
     seen: &Seen,
+    actor: Actor,
     verb: &[u8],
     args: &[&[u8]],
 ) -> Result<Word, LineRefused>
+    requires { IsGood header.now.plan }
     ensures { Reads (λ word. word) result
-        (host_command_of machine.now actor.now seen.now verb.now
-        (map (λ arg. arg.now) args.now)) }
+        (host_command_of header.now seen.now actor verb.now (map (λ arg. arg.now) args.now)) }
 {
     if verb == b"flip".as_slice() {
-        flip_of(machine, actor, seen, args)
+        flip_of(header, seen, actor, args)
     } else if verb == b"swap".as_slice() {
-        swap_of(machine, actor, seen, args)
-    } else if verb == b"keep".as_slice() || verb == b"restore".as_slice() {
-        keep_of(machine, actor, seen, args)
+        swap_of(header, seen, actor, args)
+    } else if verb == b"keep".as_slice() {
+        keep_of(header, seen, actor, args)
+    } else if verb == b"restore".as_slice() {
+        restore_of(header, seen, actor, args)
     } else {
         run_command_of(alloc, seen, verb, args)
     }

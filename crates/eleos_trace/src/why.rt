@@ -22,9 +22,9 @@ pub enum Why {
     Many,
     /// The actor is not declared, or may not give this command.
     Actor,
-    /// A number, a key or the bytes of a write are outside their limits, or a page, frame or place is not in the machine.
+    /// A number, a sum over the machine, the number of blocks, a key or the bytes of a write are outside their limits, or a page, frame or place is not in the machine.
     Range,
-    /// The name is not bound, or is bound already.
+    /// The name is not bound, or is bound already; or a block of the enclave has it.
     Name,
     /// An enclave is not declared.
     Enclave,
@@ -34,7 +34,7 @@ pub enum Why {
     NoSpace,
     /// The owner of a header block is neither 0 nor a caller of its enclave.
     Owner,
-    /// The form is not read yet.
+    /// The form is not read yet; every form of kind replay is.
     Later,
 }
 

@@ -1,4 +1,4 @@
-// The commands of a trace.
+// The commands of a trace, and who gives them.
 
 use eleos_base::Bytes;
 
@@ -7,9 +7,13 @@ use eleos_base::Bytes;
 pub enum Actor {
     /// A caller by its number, from 1.
     Caller(u32),
+    Swapper,
+    Balloon,
+    Host,
 }
 
 /// A command. Lengths and offsets are in bytes, offsets from the start of the named block.
+/// Pages, frames and places are numbered over the whole machine; a place keeps one sub-page.
 #[derive(Debug, Drop)]
 pub enum Word {
     Alloc {
@@ -17,6 +21,9 @@ pub enum Word {
         bytes: u32,
     },
     Free {
+        name: Bytes,
+    },
+    Share {
         name: Bytes,
     },
     Read {
@@ -28,5 +35,42 @@ pub enum Word {
         name: Bytes,
         offset: u32,
         bytes: Bytes,
+    },
+    Tie {
+        name: Bytes,
+        offset: u32,
+    },
+    Untie {
+        name: Bytes,
+        offset: u32,
+    },
+    Fill {
+        page: u32,
+        frame: u32,
+    },
+    Evict {
+        page: u32,
+        frame: u32,
+    },
+    /// From an enclave to the pool, or from the pool, which is `None`, to an enclave.
+    Move {
+        frame: u32,
+        from: Option<u32>,
+        to: Option<u32>,
+    },
+    /// `bit` counts from the lowest bit of the first byte.
+    Flip {
+        place: u32,
+        bit: u32,
+    },
+    SwapPlaces {
+        a: u32,
+        b: u32,
+    },
+    Keep {
+        place: u32,
+    },
+    Restore {
+        place: u32,
     },
 }

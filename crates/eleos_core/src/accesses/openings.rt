@@ -1,7 +1,7 @@
 // The text of a sub-page whose page is absent.
-ghost use Rattle.std.specs.Prelude.{◌+◌, ◌≤◌, ◌<◌, ◌^◌, [], length, IfOk, option_map};
+ghost use Rattle.std.specs.Prelude.{◌≡◌, ◌+◌, ◌≤◌, ◌<◌, ◌^◌, [], length, IfOk, IfSome, option_map};
 ghost use Rattle.eleos_core.specs.Accesses.{AreBlocks, Opens, Reseals, block_places};
-ghost use Rattle.eleos_core.specs.Cells.{part_with};
+ghost use Rattle.eleos_core.specs.Cells.{part_with, sub_size};
 ghost use Rattle.eleos_core.specs.Seals.{seals_by};
 
 use crate::blocks::SUB_BYTES;
@@ -49,10 +49,12 @@ pub fn reseal<S: Sealer>(
     requires room { sub.old.version + 1 < 2 ^ 64 }
     requires within { from + length bytes.now ≤ 1024 }
     requires blocks { AreBlocks (block_places place (part_with sub.old [])) blocks.now }
-    ensures { IfOk result (λ found.
+    ensures reseals { IfOk result (λ found.
         Reseals (seals_by (S.key sealer.now)) place from bytes.now blocks.now
         (part_with sub.old []) (option_map (λ block. block.items) found)
         (part_with sub.new [])) }
+    ensures size { IfOk result (λ found.
+        IfSome found (λ block. length block.items ≡ sub_size)) }
 {
     let Some(mut text) = open_text(alloc, sealer, sub, place, blocks)? else {
         return Ok(None);

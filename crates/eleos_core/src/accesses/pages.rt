@@ -1,11 +1,11 @@
 // Reads and writes on the cell of a page.
 ghost use Rattle.std.specs.Prelude.{◌≡◌, ◌+◌, ◌*◌, ◌≤◌, [], length, IfOk, OnErr, None, map, ◌∷◌};
-ghost use Rattle.std.specs.Prelude.{take, drop};
+ghost use Rattle.std.specs.Prelude.{take, drop, All};
 ghost use Rattle.eleos_core.specs.Applying.{put_of};
 ghost use Rattle.eleos_base.specs.Plans.{IsCaller, IsGood};
 ghost use Rattle.eleos_core.specs.Accesses.{AreBlocks, ReadsPage, WritesPage, opened_places};
 ghost use Rattle.eleos_core.specs.Accesses.{refusal_for, rewritten_places, with_bytes};
-ghost use Rattle.eleos_core.specs.Cells.{IsPage, part_of_page, piece};
+ghost use Rattle.eleos_core.specs.Cells.{IsPage, part_of_page, piece, sub_size};
 ghost use Rattle.eleos_core.specs.Places.{all_frames};
 ghost use Rattle.eleos_core.specs.Seals.{seals_by};
 
@@ -15,7 +15,7 @@ use crate::accesses::spots::spot_of;
 use crate::blocks::SUB_BYTES;
 use crate::cells::Page;
 use crate::event::Block;
-use crate::vault::{Outcome, Put};
+use crate::machine::{Effect, Put};
 use eleos_base::{Addr, Bytes, List, NoMemory, Plan, Reply, Sealer};
 use std::alloc::Global;
 
@@ -80,16 +80,18 @@ pub fn write_page<S: Sealer>(
     at: Addr,
     bytes: &[u8],
     blocks: &[Block],
-) -> Result<Outcome, NoMemory>
+) -> Result<Effect, NoMemory>
     requires good { IsGood plan.now }
     requires caller { IsCaller plan.now who }
     requires page { IsPage plan.now.wear (all_frames plan.now) page.old }
     requires accepted { refusal_for plan.now who at (length bytes.now) (part_of_page page.old)
         ≡ None }
     requires blocks { AreBlocks (rewritten_places plan.now at (part_of_page page.old)) blocks.now }
-    ensures writes { IfOk result (λ outcome.
+    ensures writes { IfOk result (λ effect.
         WritesPage plan.now (seals_by (S.key sealer.now)) who at bytes.now blocks.now
-        (part_of_page page.old) outcome.reply outcome.puts (part_of_page page.new)) }
+        (part_of_page page.old) effect.reply effect.puts (part_of_page page.new)) }
+    ensures blocks { IfOk result (λ effect.
+        All (λ put. length put.block ≡ sub_size) effect.puts) }
     ensures page { IsPage plan.now.wear (all_frames plan.now) page.new }
     ensures err { OnErr result (part_of_page page.new ≡ part_of_page page.old) }
 {
@@ -112,7 +114,7 @@ pub fn write_page<S: Sealer>(
     };
     let puts = one_put(alloc, spot.place, block)?;
     page.subs[spot.index] = sub;
-    Ok(Outcome {
+    Ok(Effect {
         reply: Reply::Done,
         puts,
     })
@@ -127,11 +129,12 @@ fn put_at(bytes: &mut [u8], from: usize, new: &[u8])
 }
 
 /// An answer without blocks for the host.
-pub fn only_reply(alloc: Global, reply: Reply) -> Outcome
+pub fn only_reply(alloc: Global, reply: Reply) -> Effect
     ensures reply { result.reply ≡ reply }
     ensures puts { result.puts ≡ [] }
+    ensures blocks { All (λ put. length put.block ≡ sub_size) result.puts }
 {
-    Outcome {
+    Effect {
         reply,
         puts: List::of(Vec::new(alloc)),
     }

@@ -9,10 +9,10 @@ use crate::accesses::refusals::is_worn;
 use crate::accesses::spots::spot_of;
 use crate::cells::SubPage;
 use crate::event::Event;
-use crate::vault::Vault;
+use crate::machine::Core;
 use eleos_base::{Addr, Op};
 
-impl Vault {
+impl Core {
     /// The place whose block the event takes as an access: that of a sealed sub-page of an absent
     /// page. There is none where the access is refused or worn.
     pub fn places_of_access(&self, who: u32, event: &Event) -> Option<u32>

@@ -1,18 +1,19 @@
 // Calls on memory, applied.
-ghost use Rattle.std.specs.Prelude.{◌≡◌, Err, IfOk, OnErr};
+ghost use Rattle.std.specs.Prelude.{◌≡◌, length, All, Err, IfOk, OnErr};
 ghost use Rattle.eleos_base.specs.Plans.{IsCaller};
 ghost use Rattle.eleos_core.specs.Accesses.{AreBlocks};
 ghost use Rattle.eleos_core.specs.Applying.{AlwaysApplies, AlwaysIllegal};
+ghost use Rattle.eleos_core.specs.Cells.{sub_size};
 ghost use Rattle.eleos_core.specs.Needs.{needed};
 ghost use Rattle.eleos_core.specs.Seals.{seals_by};
 
 use crate::accesses::only_reply;
 use crate::event::{Block, Event};
-use crate::vault::{ApplyRefused, Outcome, Vault};
+use crate::machine::{ApplyRefused, Core, Effect};
 use eleos_base::{Op, Part, Sealer};
 use std::alloc::Global;
 
-impl Vault {
+impl Core {
     /// Applies a call on memory, which is never illegal. After want of memory nothing has changed.
     pub fn apply_call<S: Sealer>(
         &mut self,
@@ -21,12 +22,14 @@ impl Vault {
         who: u32,
         op: &Op,
         blocks: &[Block],
-    ) -> Result<Outcome, ApplyRefused>
+    ) -> Result<Effect, ApplyRefused>
         requires within { IsCaller self.old.plan who }
         requires blocks { AreBlocks (needed self.old who (Event.Op op.now)) blocks.now }
-        ensures applied { IfOk result (λ outcome.
+        ensures applied { IfOk result (λ effect.
             AlwaysApplies (seals_by (S.key sealer.now)) self.old who (Event.Op op.now) blocks.now
-            outcome.reply outcome.puts self.new) }
+            effect.reply effect.puts self.new) }
+        ensures blocks { IfOk result (λ effect.
+            All (λ put. length put.block ≡ sub_size) effect.puts) }
         ensures illegal { (part : Part) → result ≡ Err (ApplyRefused.Illegal part)
             → AlwaysIllegal (seals_by (S.key sealer.now)) self.old who (Event.Op op.now)
             blocks.now part }
@@ -44,8 +47,8 @@ impl Vault {
                 Ok(only_reply(alloc, reply))
             }
             Op::Write { at, bytes } => {
-                let outcome = self.write(alloc, sealer, who, *at, bytes.as_slice(), blocks)?;
-                Ok(outcome)
+                let effect = self.write(alloc, sealer, who, *at, bytes.as_slice(), blocks)?;
+                Ok(effect)
             }
         }
     }

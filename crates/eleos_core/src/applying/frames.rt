@@ -1,8 +1,9 @@
 // Pages and frames: a fill, an evict or a move that is legal is done.
-ghost use Rattle.std.specs.Prelude.{◌≡◌, ◌<◌, ℕ, [], Err, IfOk, OnErr};
+ghost use Rattle.std.specs.Prelude.{◌≡◌, ◌<◌, ℕ, [], length, All, Err, IfOk, OnErr};
 ghost use Rattle.eleos_base.specs.declared.memory.Part.{Part as Offence};
 ghost use Rattle.eleos_core.specs.Accesses.{AreBlocks};
 ghost use Rattle.eleos_core.specs.Applying.{AlwaysApplies, AlwaysIllegal};
+ghost use Rattle.eleos_core.specs.Cells.{sub_size};
 ghost use Rattle.eleos_core.specs.Fills.{page_in, sealed_places};
 ghost use Rattle.eleos_core.specs.Legal.{IsActor, IsOwner, OneIsPool};
 ghost use Rattle.eleos_core.specs.Places.{all_frames, all_pages};
@@ -10,11 +11,11 @@ ghost use Rattle.eleos_core.specs.Seals.{Seals, seals_by};
 
 use crate::accesses::only_reply;
 use crate::event::{Block, Event};
-use crate::vault::{ApplyRefused, Outcome, Vault};
+use crate::machine::{ApplyRefused, Core, Effect};
 use eleos_base::{Reply, Sealer};
 use std::alloc::Global;
 
-impl Vault {
+impl Core {
     /// Puts the page into the frame, where that is legal, with what its blocks open to.
     /// There is a block for each of its sealed sub-pages, in rising order of place.
     pub fn apply_fill<S: Sealer>(
@@ -24,13 +25,15 @@ impl Vault {
         page: u32,
         frame: u32,
         blocks: &[Block],
-    ) -> Result<Outcome, ApplyRefused>
+    ) -> Result<Effect, ApplyRefused>
         requires page { page < all_pages self.old.plan }
         requires frame { frame < all_frames self.old.plan }
         requires blocks { AreBlocks (sealed_places page (page_in self.old page)) blocks.now }
-        ensures applied { IfOk result (λ outcome. (who : ℕ) → IsActor self.old.plan who
+        ensures applied { IfOk result (λ effect. (who : ℕ) → IsActor self.old.plan who
             → AlwaysApplies (seals_by (S.key sealer.now)) self.old who (Event.Fill page frame)
-            blocks.now outcome.reply outcome.puts self.new) }
+            blocks.now effect.reply effect.puts self.new) }
+        ensures blocks { IfOk result (λ effect.
+            All (λ put. length put.block ≡ sub_size) effect.puts) }
         ensures illegal { (who : ℕ) (part : Offence) → result ≡ Err (ApplyRefused.Illegal part)
             → AlwaysIllegal (seals_by (S.key sealer.now)) self.old who (Event.Fill page frame)
             blocks.now part }
@@ -51,12 +54,14 @@ impl Vault {
         sealer: &S,
         page: u32,
         frame: u32,
-    ) -> Result<Outcome, ApplyRefused>
+    ) -> Result<Effect, ApplyRefused>
         requires page { page < all_pages self.old.plan }
         requires frame { frame < all_frames self.old.plan }
-        ensures applied { IfOk result (λ outcome. (who : ℕ) → IsActor self.old.plan who
+        ensures applied { IfOk result (λ effect. (who : ℕ) → IsActor self.old.plan who
             → AlwaysApplies (seals_by (S.key sealer.now)) self.old who (Event.Evict page frame)
-            [] outcome.reply outcome.puts self.new) }
+            [] effect.reply effect.puts self.new) }
+        ensures blocks { IfOk result (λ effect.
+            All (λ put. length put.block ≡ sub_size) effect.puts) }
         ensures illegal { (who : ℕ) (part : Offence) → result ≡ Err (ApplyRefused.Illegal part)
             → AlwaysIllegal (seals_by (S.key sealer.now)) self.old who (Event.Evict page frame)
             [] part }
@@ -66,7 +71,7 @@ impl Vault {
             return Err(ApplyRefused::Illegal { part });
         }
         let puts = self.evict(alloc, sealer, page, frame)?;
-        Ok(Outcome {
+        Ok(Effect {
             reply: Reply::Done,
             puts,
         })
@@ -79,14 +84,16 @@ impl Vault {
         frame: u32,
         from: Option<u16>,
         to: Option<u16>,
-    ) -> Result<Outcome, ApplyRefused>
+    ) -> Result<Effect, ApplyRefused>
         requires frame { frame < all_frames self.old.plan }
         requires from { IsOwner self.old.plan from }
         requires to { IsOwner self.old.plan to }
         requires one_is_pool { OneIsPool from to }
-        ensures applied { IfOk result (λ outcome. (x : Seals) (who : ℕ) → IsActor self.old.plan who
+        ensures applied { IfOk result (λ effect. (x : Seals) (who : ℕ) → IsActor self.old.plan who
             → AlwaysApplies x self.old who (Event.Move frame from to)
-            [] outcome.reply outcome.puts self.new) }
+            [] effect.reply effect.puts self.new) }
+        ensures blocks { IfOk result (λ effect.
+            All (λ put. length put.block ≡ sub_size) effect.puts) }
         ensures illegal { (x : Seals) (who : ℕ) (part : Offence)
             → result ≡ Err (ApplyRefused.Illegal part)
             → AlwaysIllegal x self.old who (Event.Move frame from to) [] part }

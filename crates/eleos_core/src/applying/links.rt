@@ -1,22 +1,25 @@
 // Links on pages, applied.
-ghost use Rattle.std.specs.Prelude.{◌≡◌, ◌<◌, [], Err, IfOk, OnErr};
+ghost use Rattle.std.specs.Prelude.{◌≡◌, ◌<◌, [], length, All, Err, IfOk, OnErr};
 ghost use Rattle.eleos_base.specs.Plans.{IsCaller};
 ghost use Rattle.eleos_core.specs.Applying.{AlwaysApplies, AlwaysIllegal};
+ghost use Rattle.eleos_core.specs.Cells.{sub_size};
 ghost use Rattle.eleos_core.specs.Places.{all_pages};
 ghost use Rattle.eleos_core.specs.Seals.{Seals};
 
 use crate::accesses::only_reply;
 use crate::event::Event;
-use crate::vault::{ApplyRefused, Outcome, Vault};
+use crate::machine::{ApplyRefused, Core, Effect};
 use eleos_base::{Addr, Part};
 use std::alloc::Global;
 
-impl Vault {
+impl Core {
     /// Applies a link, to which no blocks are given.
-    pub fn apply_link(&mut self, alloc: Global, who: u32, at: Addr) -> Result<Outcome, ApplyRefused>
+    pub fn apply_link(&mut self, alloc: Global, who: u32, at: Addr) -> Result<Effect, ApplyRefused>
         requires within { IsCaller self.old.plan who }
-        ensures applied { (x : Seals) → IfOk result (λ outcome.
-            AlwaysApplies x self.old who (Event.Link at) [] outcome.reply outcome.puts self.new) }
+        ensures applied { (x : Seals) → IfOk result (λ effect.
+            AlwaysApplies x self.old who (Event.Link at) [] effect.reply effect.puts self.new) }
+        ensures blocks { IfOk result (λ effect.
+            All (λ put. length put.block ≡ sub_size) effect.puts) }
         ensures illegal { (x : Seals) (part : Part) → result ≡ Err (ApplyRefused.Illegal part)
             → AlwaysIllegal x self.old who (Event.Link at) [] part }
         ensures err { OnErr result (self.new ≡ self.old) }
@@ -34,12 +37,14 @@ impl Vault {
         alloc: Global,
         who: u32,
         page: u32,
-    ) -> Result<Outcome, ApplyRefused>
+    ) -> Result<Effect, ApplyRefused>
         requires caller { IsCaller self.old.plan who }
         requires page { page < all_pages self.old.plan }
-        ensures applied { (x : Seals) → IfOk result (λ outcome.
-            AlwaysApplies x self.old who (Event.Unlink page) [] outcome.reply outcome.puts
+        ensures applied { (x : Seals) → IfOk result (λ effect.
+            AlwaysApplies x self.old who (Event.Unlink page) [] effect.reply effect.puts
             self.new) }
+        ensures blocks { IfOk result (λ effect.
+            All (λ put. length put.block ≡ sub_size) effect.puts) }
         ensures illegal { (x : Seals) (part : Part) → result ≡ Err (ApplyRefused.Illegal part)
             → AlwaysIllegal x self.old who (Event.Unlink page) [] part }
         ensures err { OnErr result (self.new ≡ self.old) }

@@ -6,15 +6,15 @@ ghost use Rattle.eleos_core.specs.Parts.{sealed_from};
 ghost use Rattle.eleos_core.specs.Quiet.{wanted_page, wanted_part};
 ghost use Rattle.eleos_core.specs.Accesses.{taken_places};
 ghost use Rattle.eleos_core.specs.Legal.{IsWithin};
-ghost use Rattle.eleos_core.specs.Needs.{needed};
+ghost use Rattle.eleos_core.specs.Needs.{AlwaysCovers, needed};
 ghost use Rattle.eleos_core.specs.Places.{all_pages};
 
 use crate::accesses::spot_of;
 use crate::cells::SubPage;
 use crate::event::{Event, Wanted};
 use crate::frames::SUBS_PER_PAGE;
+use crate::machine::Core;
 use crate::sweeps::address_of;
-use crate::vault::Vault;
 use std::marker::Model;
 
 /// The most places that an event takes blocks of: those of a page.
@@ -79,11 +79,12 @@ fn sealed_among(subs: &[SubPage], first: u32) -> Places
     places
 }
 
-impl Vault {
+impl Core {
     /// The places whose blocks the event takes, in rising order.
     pub fn need(&self, who: u32, event: &Event) -> Places
         requires within { IsWithin self.now.plan who event.now }
-        ensures { result ≡ needed self.now who event.now }
+        ensures places { result ≡ needed self.now who event.now }
+        ensures covers { AlwaysCovers self.now who event.now result }
     {
         match event {
             Event::Op(_) => self.need_of_call(who, event),

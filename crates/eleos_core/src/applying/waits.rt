@@ -1,20 +1,21 @@
 // What waits for a frame or a block, and the end of a search: it is answered where that is legal.
-ghost use Rattle.std.specs.Prelude.{◌≡◌, ◌<◌, ℕ, length, [], Err, IfOk};
+ghost use Rattle.std.specs.Prelude.{◌≡◌, ◌<◌, ℕ, length, [], All, Err, IfOk};
 ghost use Rattle.eleos_base.specs.declared.memory.Part.{Part as Offence};
 ghost use Rattle.eleos_base.specs.Plans.{IsCaller};
 ghost use Rattle.eleos_core.specs.Accesses.{AreBlocks};
 ghost use Rattle.eleos_core.specs.Applying.{AlwaysApplies, AlwaysIllegal};
+ghost use Rattle.eleos_core.specs.Cells.{sub_size};
 ghost use Rattle.eleos_core.specs.Legal.{IsActor};
 ghost use Rattle.eleos_core.specs.Quiet.{wanted_places};
 ghost use Rattle.eleos_core.specs.Seals.{Seals, seals_by};
 
 use crate::accesses::only_reply;
 use crate::event::{Block, Event, Goal, Wanted};
-use crate::vault::{ApplyRefused, Outcome, Vault};
+use crate::machine::{ApplyRefused, Core, Effect};
 use eleos_base::{Looked, Part, Reply, Sealer};
 use std::alloc::Global;
 
-impl Vault {
+impl Core {
     /// Refuses what waits for a frame, where the sweep saw that none can be had.
     pub fn apply_starved(
         &self,
@@ -22,11 +23,13 @@ impl Vault {
         who: u32,
         wanted: &Wanted,
         sweep: &[Looked],
-    ) -> Result<Outcome, ApplyRefused>
+    ) -> Result<Effect, ApplyRefused>
         requires { IsCaller self.now.plan who }
-        ensures applied { IfOk result (λ outcome. (x : Seals)
+        ensures applied { IfOk result (λ effect. (x : Seals)
             → AlwaysApplies x self.now who (Event.Starved wanted.now sweep.now)
-            [] outcome.reply outcome.puts self.now) }
+            [] effect.reply effect.puts self.now) }
+        ensures blocks { IfOk result (λ effect.
+            All (λ put. length put.block ≡ sub_size) effect.puts) }
         ensures illegal { (x : Seals) (part : Offence) → result ≡ Err (ApplyRefused.Illegal part)
             → AlwaysIllegal x self.now who (Event.Starved wanted.now sweep.now) [] part }
     {
@@ -46,12 +49,14 @@ impl Vault {
         who: u32,
         wanted: &Wanted,
         blocks: &[Block],
-    ) -> Result<Outcome, ApplyRefused>
+    ) -> Result<Effect, ApplyRefused>
         requires caller { IsCaller self.now.plan who }
         requires blocks { AreBlocks (wanted_places self.now wanted.now) blocks.now }
-        ensures applied { IfOk result (λ outcome.
+        ensures applied { IfOk result (λ effect.
             AlwaysApplies (seals_by (S.key sealer.now)) self.now who (Event.Spoiled wanted.now)
-            blocks.now outcome.reply outcome.puts self.now) }
+            blocks.now effect.reply effect.puts self.now) }
+        ensures blocks { IfOk result (λ effect.
+            All (λ put. length put.block ≡ sub_size) effect.puts) }
         ensures illegal { (part : Offence) → result ≡ Err (ApplyRefused.Illegal part)
             → AlwaysIllegal (seals_by (S.key sealer.now)) self.now who (Event.Spoiled wanted.now)
             blocks.now part }
@@ -75,11 +80,13 @@ impl Vault {
         enclave: u16,
         goal: Goal,
         sweep: &[Looked],
-    ) -> Result<Outcome, ApplyRefused>
+    ) -> Result<Effect, ApplyRefused>
         requires { enclave < length self.now.plan.enclaves }
-        ensures applied { IfOk result (λ outcome. (x : Seals) (who : ℕ) → IsActor self.now.plan who
+        ensures applied { IfOk result (λ effect. (x : Seals) (who : ℕ) → IsActor self.now.plan who
             → AlwaysApplies x self.now who (Event.Survey enclave goal sweep.now)
-            [] outcome.reply outcome.puts self.now) }
+            [] effect.reply effect.puts self.now) }
+        ensures blocks { IfOk result (λ effect.
+            All (λ put. length put.block ≡ sub_size) effect.puts) }
         ensures illegal { (x : Seals) (who : ℕ) (part : Offence)
             → result ≡ Err (ApplyRefused.Illegal part)
             → AlwaysIllegal x self.now who (Event.Survey enclave goal sweep.now) [] part }

@@ -6,7 +6,7 @@ ghost use Rattle.eleos_base.specs.Lists.{map_from};
 ghost use Rattle.eleos_base.specs.Plans.{page_bytes};
 ghost use Rattle.eleos_core.specs.Applying.{put_of};
 ghost use Rattle.eleos_core.specs.Cells.{IsUse, part_of_frame, part_of_page, part_with, piece};
-ghost use Rattle.eleos_core.specs.Cells.{subs_per_page};
+ghost use Rattle.eleos_core.specs.Cells.{sub_size, subs_per_page};
 ghost use Rattle.eleos_core.specs.Evicts.{CanLeave, sealed_block, sealed_blocks, sealed_sub};
 ghost use Rattle.eleos_core.specs.Parts.{frame_part, page_part, subs_in};
 ghost use Rattle.eleos_core.specs.Seals.{seals_by};
@@ -15,7 +15,7 @@ ghost use Rattle.eleos_core.specs.declared.cells.sub_page.SubPage.{SubPage};
 use crate::blocks::SUB_BYTES;
 use crate::cells::{Frame, Page, SubPage, Use};
 use crate::frames::clear;
-use crate::vault::Put;
+use crate::machine::Put;
 use eleos_base::{Bytes, LONGEST_SEALED, NoMemory, Sealer};
 use std::alloc::Global;
 
@@ -82,6 +82,8 @@ fn seal_subs<S: Sealer>(
     ensures puts { IfOk result (λ sealed. map put_of sealed.puts.items
         ≡ sealed_blocks (seals_by (S.key sealer.now)) first
         (map_from (λ i u. part_with u (piece i bytes.now)) 0 subs.now)) }
+    ensures blocks { IfOk result (λ sealed.
+        All (λ put. length put.block ≡ sub_size) sealed.puts.items) }
 {
     let mut next = Vec::new(alloc);
     let mut puts = Vec::new(alloc);
@@ -114,6 +116,7 @@ pub fn leave<S: Sealer>(
     ensures zero { IfOk result (λ puts. IsUse 0 frame.new.used) }
     ensures puts { IfOk result (λ puts. map put_of puts.items
         ≡ sealed_blocks (seals_by (S.key sealer.now)) first (subs_in (part_of_page page.old))) }
+    ensures blocks { IfOk result (λ puts. All (λ put. length put.block ≡ sub_size) puts.items) }
     ensures err_page { OnErr result (page.new ≡ page.old) }
     ensures err_frame { OnErr result (frame.new ≡ frame.old) }
 {

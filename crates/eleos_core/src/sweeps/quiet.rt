@@ -18,16 +18,16 @@ use crate::blocks::SUB_BYTES;
 use crate::event::{Block, Goal, Wanted};
 use crate::fills::{Spoiled, open_subs};
 use crate::frames::SUBS_PER_PAGE;
+use crate::machine::Core;
 use crate::sweeps::survey_reply;
 use crate::sweeps::waiting::address_of;
-use crate::vault::Vault;
 use eleos_base::{List, Looked, NoMemory, Reply, Sealer};
 use std::alloc::Global;
 
 /// Bytes of a page.
 const PAGE_BYTES: usize = (SUBS_PER_PAGE * SUB_BYTES) as usize;
 
-impl Vault {
+impl Core {
     /// Refuses what waits for a frame, with what was seen of the frames that its page may take.
     pub fn starved(&self, alloc: Global, sweep: &[Looked]) -> Result<Reply, NoMemory>
         ensures { (x : Seals) (who : ℕ) (wanted : Wanted) → IsCaller self.now.plan who

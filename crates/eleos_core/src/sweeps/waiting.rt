@@ -8,12 +8,12 @@ ghost use Rattle.eleos_core.specs.State.{address_of, call_address};
 
 use crate::accesses::spot_of;
 use crate::event::Wanted;
+use crate::machine::Core;
 use crate::sweeps::is_all_taken;
-use crate::vault::Vault;
 use eleos_base::{Addr, Looked, NoMemory, Op, Part};
 use std::alloc::Global;
 
-impl Vault {
+impl Core {
     /// What an event of something that waits offends against, where it does not wait: its page is
     /// in a frame, or it needs no frame or is refused at once.
     pub fn waiting_offence(&self, who: u32, wanted: &Wanted) -> Option<Part>

@@ -17,7 +17,7 @@ const BAD_COMMANDS: [(&str, &str); 8] = [
     ("c2 alloc a 1\nend\n", "refused 8 actor\n"),
     ("c1 alloc a 4294967296\nend\n", "refused 8 range\n"),
     ("c1 read a 0 1\nend\n", "refused 8 name\n"),
-    ("c1 alloc a 1\nc1 share a\nend\n", "refused 9 later\n"),
+    ("c1 alloc a 1\nb move 0 - 1\nend\n", "refused 9 enclave\n"),
 ];
 
 /// Texts whose header is bad, with the line that refuses them.

@@ -1,19 +1,25 @@
 // The whole header, line by line.
 ghost use Rattle.std.specs.Prelude.{◌≡◌, ◌≤◌, ◌<◌, List, ℕ, map, length, IfOk};
 ghost use Rattle.std.specs.List.{slice_split};
+ghost use Rattle.eleos_base.specs.Plans.{IsGood};
 ghost use Rattle.eleos_trace.specs.Fields.{is_newline};
-ghost use Rattle.eleos_trace.specs.Header.{next_words, machine_of, header_of};
+ghost use Rattle.eleos_trace.specs.Blocks.{AreGoodBlocks};
+ghost use Rattle.eleos_trace.specs.WholeHeader.{next_words, machine_of, machine_lines, header_of};
+ghost use Rattle.eleos_trace.specs.WholeHeader.{IsGoodHeader, header_lines};
 ghost use Rattle.eleos_trace.specs.Reasons.{Gives};
 
-use super::further::{spare_line, start_line, wear_line};
-use super::{Header, Machine, caller_line, enclave_line, key_line, title_line};
+use super::Header;
+use super::blocks::blocks_of;
+use super::homes::{callers_of, enclaves_of};
+use super::lines::{key_line, spare_line, start_line, title_line, wear_line};
 use crate::splits::{first_line, words_of};
 use crate::why::at_line;
 use crate::{TraceRefused, Why};
+use eleos_base::{List, Plan};
 use std::alloc::Global;
 
 /// The words of the next line, which has this number, and the text behind it.
-fn next_words<'a>(
+pub(crate) fn next_words<'a>(
     alloc: Global,
     line: u32,
     text: &'a [u8],
@@ -32,42 +38,66 @@ fn next_words<'a>(
     Ok((words_of(alloc, front)?, rest))
 }
 
-/// The machine of a text, and the text behind the lines that say it.
-#[tactic(auto, unfolding(crate::specs::Header::machine_of))]
-fn machine_of(alloc: Global, text: &[u8]) -> Result<(Machine, &[u8]), TraceRefused>
+/// The machine of a text without its blocks, and the text behind the lines that say it.
+#[tactic(auto, unfolding(crate::specs::WholeHeader::machine_of))]
+fn machine_of(alloc: Global, text: &[u8]) -> Result<(Plan, &[u8]), TraceRefused>
     ensures given { Gives (λ x. (x.0, slice_split is_newline x.1.now)) result
         (machine_of (slice_split is_newline text.now)) }
-    ensures shorter { IfOk result (λ x. length x.1.now < length text.now) }
+    ensures good { IfOk result (λ x. IsGood x.0) }
+    ensures shorter { IfOk result (λ x. length x.1.now ≤ length text.now) }
 {
     let (words, text) = next_words(alloc, 1, text)?;
     at_line(1, title_line(&words))?;
-    let (words, text) = next_words(alloc, 2, text)?;
-    let enclave = at_line(2, enclave_line(&words))?;
-    let (words, text) = next_words(alloc, 3, text)?;
-    let spare = at_line(3, spare_line(enclave.frames, &words))?;
-    let (words, text) = next_words(alloc, 4, text)?;
-    at_line(4, caller_line(&words))?;
-    let (words, text) = next_words(alloc, 5, text)?;
-    let wear = at_line(5, wear_line(&words))?;
-    let machine = Machine {
-        enclave,
+    let (enclaves, text) = enclaves_of(alloc, 2, text)?;
+    let line = enclaves.len() as u32;
+    let (words, text) = next_words(alloc, line + 2, text)?;
+    let spare = at_line(line + 2, spare_line(&enclaves, &words))?;
+    let (callers, text) = callers_of(alloc, &enclaves, line + 3, text)?;
+    let line = line + callers.len() as u32 + 3;
+    let (words, text) = next_words(alloc, line, text)?;
+    let wear = at_line(line, wear_line(&words))?;
+    let plan = Plan {
+        enclaves: List::of(enclaves),
         spare,
+        callers: List::of(callers),
         wear,
+        blocks: List::of(Vec::new(alloc)),
     };
-    Ok((machine, text))
+    Ok((plan, text))
+}
+
+/// The lines up to those of enclaves and callers, and up to the wear.
+fn machine_lines(plan: &Plan) -> u32
+    requires { IsGood plan.now }
+    ensures { result ≡ machine_lines plan.now }
+{
+    plan.enclaves.len() as u32 + plan.callers.len() as u32 + 3
 }
 
 /// The header of a text, and the text behind it.
-#[tactic(auto, unfolding(crate::specs::Header::header_of))]
+#[tactic(auto, unfolding(crate::specs::WholeHeader::header_of))]
 pub(crate) fn header_of(alloc: Global, text: &[u8]) -> Result<(Header, &[u8]), TraceRefused>
     ensures given { Gives (λ x. (x.0, slice_split is_newline x.1.now)) result
         (header_of (slice_split is_newline text.now)) }
-    ensures shorter { IfOk result (λ x. length x.1.now < length text.now) }
+    ensures good { IfOk result (λ x. IsGoodHeader x.0) }
+    ensures shorter { IfOk result (λ x. length x.1.now ≤ length text.now) }
 {
-    let (machine, text) = machine_of(alloc, text)?;
-    let (words, text) = next_words(alloc, 6, text)?;
-    let key = at_line(6, key_line(alloc, &words))?;
-    let (words, text) = next_words(alloc, 7, text)?;
-    at_line(7, start_line(machine.enclave.pages, &words))?;
-    Ok((Header { machine, key }, text))
+    let (plan, text) = machine_of(alloc, text)?;
+    let line = machine_lines(&plan);
+    let (words, text) = next_words(alloc, line + 1, text)?;
+    let key = at_line(line + 1, key_line(alloc, &words))?;
+    let (blocks, text) = blocks_of(alloc, &plan, line + 2, text)?;
+    let line = line + blocks.len() as u32 + 2;
+    let (words, text) = next_words(alloc, line, text)?;
+    at_line(line, start_line(&words))?;
+    let blocks = List::of(blocks);
+    Ok((Header { plan, key, blocks }, text))
+}
+
+/// The lines of a header.
+pub(crate) fn header_lines(header: &Header) -> u32
+    requires { IsGoodHeader header.now }
+    ensures { result ≡ header_lines header.now }
+{
+    machine_lines(&header.plan) + header.blocks.len() as u32 + 2
 }

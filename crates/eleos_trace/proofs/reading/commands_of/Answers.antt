@@ -1,39 +1,45 @@
 use Rattle.std.proofs.Common.{sym, ◌∙◌, arith}
 use Rattle.std.proofs.lemmas.Result.{err_from_is_err_and}
-use Rattle.eleos_trace.proofs.Loop.{at_cut, at_end, at_more, at_bad, at_word, read_ok, seen_after-commands, seen_after-writes}
+use Rattle.std.proofs.lemmas.List.{length_push}
+use Rattle.eleos_trace.specs.WholeHeader.{plan_of}
+use Rattle.eleos_trace.specs.Replays.{MayGive}
+use Rattle.eleos_trace.proofs.Chosen.{line_ok}
+use Rattle.eleos_trace.proofs.Good.{All-push}
+use Rattle.eleos_trace.proofs.Items.{read_ok}
+use Rattle.eleos_trace.proofs.Loop.{at_cut, at_end, at_more, at_bad, at_command}
 use Rattle.eleos_trace.proofs.reading.commands_of.Goals as goal
 
-pub returns-in_err-nothing_after : goal.returns-in_err-nothing_after
-returns-in_err-nothing_after c =
-    let p = err_from_is_err_and c.from_residual.result c.from_residual.ensures.1 in
-    rw (p.1, p.2) (at_more c.args.machine.now c.loop-front.line c.loop-front.seen c.loop-front.lines.items c.loop-front.rest.now _ c.loop-front.invariant.whole
+pub returns-in_err-nothing_after-clause-given : goal.returns-in_err-nothing_after-clause-given
+returns-in_err-nothing_after-clause-given c =
+    let p = err_from_is_err_and c.from_residual-in_err-nothing_after.result c.from_residual-in_err-nothing_after.ensures.1 in
+    rw (p.1, p.2) (at_more c.args.header.now c.loop-front.line c.loop-front.seen c.loop-front.lines.items c.loop-front.rest.now _ c.loop-front.invariant.whole
     c.in-Some.front.now c.in-Some.after.now c.in-Some.ensures.parts c.in_err-nothing_after.field-0.0 (sym c.is_end.ensures ∙ c.if-is_end.true) c.in_err-nothing_after.ensures)
 
-pub returns-then-is_end : goal.returns-then-is_end
-returns-then-is_end c = at_end c.args.machine.now c.loop-front.line c.loop-front.seen c.loop-front.lines.items c.loop-front.rest.now _ c.loop-front.invariant.whole
+pub returns-then-is_end-clause-given : goal.returns-then-is_end-clause-given
+returns-then-is_end-clause-given c = at_end c.args.header.now c.loop-front.line c.loop-front.seen c.loop-front.lines.items c.loop-front.rest.now _ c.loop-front.invariant.whole
     c.in-Some.front.now c.in-Some.after.now c.in-Some.ensures.parts (sym c.is_end.ensures ∙ c.if-is_end.true) c.in_ok-nothing_after.ensures
 
-pub returns-in_err-word : goal.returns-in_err-word
-returns-in_err-word c =
-    let p = err_from_is_err_and c.from_residual-in_err-word.result c.from_residual-in_err-word.ensures.1 in
-    let given = rw (c.deref.ensures.value, c.in_ok-words.ensures) at c.word_of.ensures in
-    rw (p.1, p.2) (at_bad c.args.machine.now c.loop-front.line c.loop-front.seen c.loop-front.lines.items c.loop-front.rest.now _ c.loop-front.invariant.whole
-    c.in-Some.front.now c.in-Some.after.now c.in-Some.ensures.parts c.in_err-word.field-0.0 c.word_of.result (sym c.is_end.ensures ∙ c.if-is_end.false) given (sym c.at_line.ensures ∙ c.in_err-word.was))
+pub returns-in_err-command-clause-given : goal.returns-in_err-command-clause-given
+returns-in_err-command-clause-given c =
+    let p = err_from_is_err_and c.from_residual-in_err-command.result c.from_residual-in_err-command.ensures.1 in
+    let given = rw (c.deref.ensures.value, c.in_ok-words.ensures) at c.line_of.ensures in
+    rw (p.1, p.2) (at_bad c.args.header.now c.loop-front.line c.loop-front.seen c.loop-front.lines.items c.loop-front.rest.now _ c.loop-front.invariant.whole
+    c.in-Some.front.now c.in-Some.after.now c.in-Some.ensures.parts c.in_err-command.field-0.0 c.line_of.result (sym c.is_end.ensures ∙ c.if-is_end.false) given (sym c.at_line.ensures ∙ c.in_err-command.was))
 
 pub loop-front-preserved : goal.loop-front-preserved
 loop-front-preserved c =
-    let given = rw (c.deref.ensures.value, c.in_ok-words.ensures) at c.word_of.ensures in
-    let is = read_ok c.loop-front.line c.word_of.result _ c.in_ok-word.word (sym c.at_line.ensures ∙ c.in_ok-word.was) given in
+    let given = rw (c.deref.ensures.value, c.in_ok-words.ensures) at c.line_of.ensures in
+    let is = read_ok (λ x. x) c.loop-front.line c.line_of.result _ c.in_ok-command.command (sym c.at_line.ensures ∙ c.in_ok-command.was) given in
+    let may = line_ok c.args.header.now c.loop-front.seen _ c.in_ok-command.command is in
     let shorter = c.in-Some.ensures.shorter in
-    let commands = seen_after-commands c.loop-front.seen c.in_ok-word.word in
-    let writes = seen_after-writes c.loop-front.seen c.in_ok-word.word in
-    record {
-      count = omega arith;
-      commands = rw c.in_ok-add.ensures (omega arith);
-      writes = rw c.in_ok-add.ensures (omega arith);
-      whole = rw (c.in_ok-push.ensures.items, c.by_caller.ensures, c.in_ok-add.ensures) (at_word c.args.machine.now c.loop-front.line c.loop-front.seen c.loop-front.lines.items c.loop-front.rest.now _ c.loop-front.invariant.whole
-          c.in-Some.front.now c.in-Some.after.now c.in-Some.ensures.parts c.in_ok-word.word (sym c.is_end.ensures ∙ c.if-is_end.false) is);
-    }
+    rw (c.in_ok-push.ensures.items, c.in_ok-add.ensures) (record {
+      line = omega arith;
+      room = omega (arith, may.room);
+      count = rw (length_push c.loop-front.lines.items c.in_ok-command.command) (omega arith);
+      given = All-push (λ line. MayGive (plan_of c.args.header.now) line.actor line.command) c.loop-front.lines.items c.in_ok-command.command c.loop-front.invariant.given may.may;
+      whole = at_command c.args.header.now c.loop-front.line c.loop-front.seen c.loop-front.lines.items c.loop-front.rest.now _ c.loop-front.invariant.whole
+          c.in-Some.front.now c.in-Some.after.now c.in-Some.ensures.parts c.in_ok-command.command (sym c.is_end.ensures ∙ c.if-is_end.false) is;
+    })
 
-pub returns : goal.returns
-returns c = at_cut c.args.machine.now c.loop-front.line c.loop-front.seen c.loop-front.lines.items c.loop-front.rest.now _ c.loop-front.invariant.whole c.in_default.ensures.parts
+pub returns-clause-given : goal.returns-clause-given
+returns-clause-given c = at_cut c.args.header.now c.loop-front.line c.loop-front.seen c.loop-front.lines.items c.loop-front.rest.now _ c.loop-front.invariant.whole c.in_default.ensures.parts

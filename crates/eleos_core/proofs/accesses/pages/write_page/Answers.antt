@@ -9,6 +9,7 @@ use Rattle.eleos_core.specs.Cells.{IsPresent, piece}
 use Rattle.eleos_core.specs.Places.{all_frames}
 use Rattle.eleos_core.specs.Seals.{Seals, seals_by}
 use Rattle.eleos_core.proofs.PageAccesses.{IsPage-written, blocks-absent, blocks-fresh, writes-present, writes-sealed, writes-spoiled, writes-worn}
+use Rattle.eleos_core.proofs.PutSizes.{one_put-sized}
 use Rattle.eleos_core.proofs.Refills.{refill_is}
 use Rattle.eleos_core.proofs.accesses.pages.write_page.Goals as goal
 
@@ -70,7 +71,7 @@ returns-in_default-2-clause-writes g c =
     writes-spoiled c.args.plan.now x c.args.who c.args.at c.args.bytes.now c.args.blocks.now c.args.page.now c.spot_of-spot.result c.requires.accepted c.spot_of-spot.ensures inside
     c.index-2.result.now c.only_reply-in_default-2.result.reply c.only_reply-in_default-2.result.puts _ c.index-2.ensures
     (subst (λ (u : SubPage). (not u.is_dirty && u.version == c.args.plan.now.wear) ≡ false) same (sym c.if-is_worn.ensures))
-    c.in_default.is (rw c.in_default-2.is at c.in_ok-block.ensures) c.only_reply-in_default-2.ensures.reply c.only_reply-in_default-2.ensures.puts refl
+    c.in_default.is (rw c.in_default-2.is at c.in_ok-block.ensures.reseals) c.only_reply-in_default-2.ensures.reply c.only_reply-in_default-2.ensures.puts refl
 
 pub returns-clause-writes : goal.returns-clause-writes
 returns-clause-writes g c =
@@ -81,4 +82,7 @@ returns-clause-writes g c =
     writes-sealed c.args.plan.now x c.args.who c.args.at c.args.bytes.now c.args.blocks.now c.args.page.now c.spot_of-spot.result c.requires.accepted c.spot_of-spot.ensures inside
     c.index-2.result.now c.reseal.new.sub _ c.in-Some-2.block.items Done c.in_ok-puts.puts c.index-2.ensures
     (subst (λ (u : SubPage). (not u.is_dirty && u.version == c.args.plan.now.wear) ≡ false) same (sym c.if-is_worn.ensures))
-    c.in_default.is (rw c.in-Some-2.is at c.in_ok-block.ensures) refl refl c.in_ok-puts.ensures
+    c.in_default.is (rw c.in-Some-2.is at c.in_ok-block.ensures.reseals) refl refl c.in_ok-puts.ensures
+
+pub returns-clause-blocks : goal.returns-clause-blocks
+returns-clause-blocks g c = one_put-sized c.spot_of-spot.result.place c.in-Some-2.block.items c.in_ok-puts.puts c.in_ok-puts.ensures (rw c.in-Some-2.is at c.in_ok-block.ensures.size)

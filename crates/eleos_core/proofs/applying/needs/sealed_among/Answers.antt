@@ -1,4 +1,4 @@
-use Rattle.std.proofs.Common.{◌≡◌, List, ℕ, [], ap, arith, length, take, length-take}
+use Rattle.std.proofs.Common.{◌≡◌, [], ap, arith, length, take, length-take}
 use Rattle.std.proofs.lemmas.List.{length-map}
 use Rattle.eleos_core.specs.Cells.{part_with}
 use Rattle.eleos_core.specs.Parts.{sealed_from}

@@ -1,8 +1,9 @@
-use Rattle.std.proofs.Common.{◌∙◌, ap}
+use Rattle.std.proofs.Common.{◌∙◌, ap, arith}
 use Rattle.eleos_core.specs.Evicts.{sealed_blocks, sealed_sub}
 use Rattle.eleos_base.specs.Lists.{map_from}
 use Rattle.eleos_core.specs.Seals.{seals_by}
 use Rattle.eleos_core.proofs.Pieces.{all_parts, puts_next, slice_is_piece, subs_next}
+use Rattle.eleos_core.proofs.PutSizes.{page_puts-sized}
 use Rattle.eleos_core.proofs.evicts.sealing.seal_subs.Goals as goal
 
 pub loop-i-preserved : goal.loop-i-preserved
@@ -20,3 +21,7 @@ returns-clause-subs g c = c.loop-i.invariant.subs
 pub returns-clause-puts : goal.returns-clause-puts
 returns-clause-puts g c = c.loop-i.invariant.puts
     ∙ ap (sealed_blocks (seals_by (g.S.Sealer.key c.args.sealer.now)) c.args.first) (all_parts (seals_by (g.S.Sealer.key c.args.sealer.now)) c.args.bytes.now c.args.subs.now c.loop-i.i c.loop-i-test.false)
+
+pub returns-clause-blocks : goal.returns-clause-blocks
+returns-clause-blocks g c = page_puts-sized (g.S.Sealer.key c.args.sealer.now) c.args.first c.args.bytes.now c.args.subs.now c.loop-i.puts.items
+    (let whole = c.requires.whole in let size = c.requires.bytes in omega arith) (returns-clause-puts g c)

@@ -1,7 +1,7 @@
 use Rattle.std.proofs.Common.{◌≡◌, Some, sym, ◌∙◌, ap, subst}
 use Rattle.eleos_base.specs.Plain.{lowest_run}
 use Rattle.eleos_core.specs.Order.{AreInOrder}
-use Rattle.eleos_core.proofs.Memories.{some_subs}
+use Rattle.eleos_core.proofs.Numbers.{some_subs}
 use Rattle.eleos_core.proofs.OpeningBlocks.{placed_in_order}
 use Rattle.eleos_core.proofs.OpeningLists.{on_ok}
 use Rattle.eleos_core.proofs.opening.lives.add_header.Goals as goal

@@ -1,0 +1,152 @@
+// A replay between two commands: the machine, the addresses of names, and the stamps given.
+ghost use Rattle.std.specs.Prelude.{◌≡◌, ◌≤◌, ◌<◌, ◌+◌, ◌^◌, [], length, map, All, IfOk};
+ghost use Rattle.std.specs.Prelude.{option_map};
+ghost use Rattle.eleos_base.specs.Plans.{IsGood};
+ghost use Rattle.eleos_core.specs.Applying.{put_of};
+ghost use Rattle.eleos_core.specs.Legal.{IsWithin};
+ghost use Rattle.eleos_core.specs.Seals.{seals_by};
+ghost use Rattle.eleos_host.specs.Blocks.{IsBlock};
+ghost use Rattle.eleos_trace.specs.Replays.{IsReplay, MayGive};
+ghost use Rattle.eleos_top.specs.Replays.{store_with};
+ghost use Rattle.eleos_top.specs.Scenes.{opening_places, places_after};
+ghost use Rattle.eleos_top.specs.Sessions.{AlwaysGoesOn, Answered, Happened, Stands, StandsAfter};
+
+use crate::answer::Answer;
+use crate::headers::opening_places;
+use crate::meanings::{Meaning, meaning_of};
+use crate::places::{Places, bind_answered};
+use crate::scenes::{act, blocks_at, put_blocks};
+use eleos_base::{NoMemory, Plan};
+use eleos_core::{ApplyRefused, Core, Effect, Event};
+use eleos_gcm::Gcm;
+use eleos_host::{HostHand, HostPort};
+use eleos_trace::{Line, Trace};
+use std::alloc::Global;
+
+/// A replay between two commands.
+#[derive(Drop)]
+pub struct Session {
+    sealer: Gcm,
+    machine: Core,
+    /// The addresses of each caller's names.
+    places: Vec<Places>,
+    /// How many entries there are.
+    stamps: u64,
+}
+
+impl Session {
+    /// The replay of a trace before its first command.
+    pub fn open(alloc: Global, trace: &Trace) -> Result<Session, NoMemory>
+        requires { IsReplay trace.now }
+        ensures sealer { IfOk result (λ session. session.sealer ≡ trace.now.key) }
+        ensures stands { IfOk result (λ session.
+            StandsAfter trace.now.plan (seals_by trace.now.key) [] session) }
+        ensures places { IfOk result (λ session. session.places.items ≡ opening_places trace.now) }
+    {
+        let Ok(sealer) = Gcm::new(trace.key.as_slice()) else {
+            unreachable!()
+        };
+        Ok(Session {
+            sealer,
+            machine: Core::make(alloc, &trace.plan)?,
+            places: opening_places(alloc, trace)?,
+            stamps: 0,
+        })
+    }
+
+    /// How many entries there are.
+    pub fn stamps(&self) -> u64
+        ensures { result ≡ self.now.stamps }
+    {
+        self.stamps
+    }
+
+    /// Answers a command.
+    pub fn answer<P: HostPort + HostHand>(
+        &mut self,
+        alloc: Global,
+        host: &mut P,
+        plan: &Plan,
+        line: &Line,
+    ) -> Result<Answer, NoMemory>
+        requires good { IsGood plan.now }
+        requires given { MayGive plan.now line.now.actor line.now.command }
+        requires stands { Stands plan.now (seals_by self.old.sealer) self.old }
+        requires room { self.old.stamps < 2 ^ 63 }
+        ensures answered { IfOk result (λ answer.
+            AlwaysGoesOn plan.now (seals_by self.old.sealer)
+            (Answered plan.now (seals_by self.old.sealer) line.now) answer
+            (P.store host.old) (P.store host.new) self.old self.new) }
+        ensures sealer { self.new.sealer ≡ self.old.sealer }
+        ensures stamps { self.new.stamps ≤ self.old.stamps + 1 }
+    {
+        match meaning_of(alloc, plan, &self.places, line)? {
+            Meaning::Nameless => Ok(Answer::Skipped),
+            Meaning::Happens { who, event } => self.happen(alloc, host, who, &event, line),
+            Meaning::Offends(part) => Ok(Answer::Refused(part)),
+            Meaning::Acts(meant) => Ok(Answer::Acted(act(host, meant))),
+        }
+    }
+
+    /// Lets an event happen, if an entry of it is legal.
+    fn happen<P: HostPort>(
+        &mut self,
+        alloc: Global,
+        host: &mut P,
+        who: u32,
+        event: &Event,
+        line: &Line,
+    ) -> Result<Answer, NoMemory>
+        requires within { IsWithin self.old.machine.plan who event.now }
+        requires room { self.old.stamps < 2 ^ 63 }
+        ensures happened { IfOk result (λ answer.
+            IsGood self.old.machine.plan →
+            AlwaysGoesOn self.old.machine.plan (seals_by self.old.sealer)
+            (Happened self.old.machine.plan (seals_by self.old.sealer) line.now who event.now) answer
+            (P.store host.old) (P.store host.new) self.old self.new) }
+        ensures sealer { self.new.sealer ≡ self.old.sealer }
+        ensures stamps { self.new.stamps ≤ self.old.stamps + 1 }
+    {
+        let needed = self.machine.need(who, event);
+        let blocks = blocks_at(alloc, host, needed.as_slice())?;
+        match self.machine.apply(alloc, &self.sealer, who, event, &blocks) {
+            Ok(effect) => self.enter(alloc, host, who, line, effect),
+            Err(ApplyRefused::Illegal { part }) => Ok(Answer::Refused(part)),
+            Err(ApplyRefused::NoMemory) => Err(NoMemory),
+        }
+    }
+
+    /// Enters what an event brought about: its blocks go to the host, and a name gets its address.
+    fn enter<P: HostPort>(
+        &mut self,
+        alloc: Global,
+        host: &mut P,
+        who: u32,
+        line: &Line,
+        effect: Effect,
+    ) -> Result<Answer, NoMemory>
+        requires blocks { All (λ put. IsBlock put.block) effect.puts }
+        requires room { self.old.stamps < 2 ^ 63 }
+        ensures answer { IfOk result (λ answer. answer
+            ≡ Answer.Entered self.old.stamps effect.reply (length effect.puts)) }
+        ensures places { IfOk result (λ _. self.new.places.items
+            ≡ places_after who line.now.command effect.reply self.old.places.items) }
+        ensures stamps { IfOk result (λ _. self.new.stamps ≡ self.old.stamps + 1) }
+        ensures store { IfOk result (λ _. P.store host.new
+            ≡ option_map (λ store. store_with store (map put_of effect.puts)) (P.store host.old)) }
+        ensures machine { self.new.machine ≡ self.old.machine }
+        ensures sealer { self.new.sealer ≡ self.old.sealer }
+        ensures few { self.new.stamps ≤ self.old.stamps + 1 }
+    {
+        put_blocks(host, effect.puts.as_slice());
+        let Effect { reply, puts } = effect;
+        bind_answered(alloc, &mut self.places, who, &line.command, &reply)?;
+        let stamp = self.stamps;
+        self.stamps += 1;
+        Ok(Answer::Entered {
+            stamp,
+            reply,
+            puts: puts.len() as u64,
+        })
+    }
+}

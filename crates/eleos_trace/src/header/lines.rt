@@ -1,0 +1,116 @@
+// The lines of which a header has one each.
+ghost use Rattle.std.specs.Prelude.{◌≡◌, ◌≤◌, List, ℕ, map};
+ghost use Rattle.eleos_trace.specs.Header.{title_line, spare_line, wear_line, key_line, start_line};
+ghost use Rattle.eleos_trace.specs.Header.{is_key_length};
+ghost use Rattle.eleos_trace.specs.WholeHeader.{begins, is_one_of};
+ghost use Rattle.eleos_trace.specs.Machines.{frames_of};
+ghost use Rattle.eleos_trace.specs.Reasons.{Reads};
+
+use super::homes::MOST_FRAMES;
+use crate::Why;
+use crate::counts::{one, three, two};
+use crate::fields::{hex_bytes, is_numeral, number_up_to};
+use crate::machines::frames_of;
+use crate::why::{LineRefused, refused};
+use eleos_base::{Bytes, EnclavePlan};
+use std::alloc::Global;
+
+/// How often a sub-page may be sealed.
+const MOST_WEAR: u64 = 1 << 63;
+
+/// `eleos 1 replay`
+pub(crate) fn title_line(words: &[&[u8]]) -> Result<(), LineRefused>
+    ensures { Reads (λ x. x) result (title_line (map (λ word. word.now) words.now)) }
+{
+    let (first, version, kind) = three(words)?;
+    if first != b"eleos".as_slice() || version != b"1".as_slice() || kind != b"replay".as_slice() {
+        return refused(Why::Form);
+    }
+    Ok(())
+}
+
+/// `spare S`, beside the frames of these enclaves.
+pub(crate) fn spare_line(enclaves: &[EnclavePlan], words: &[&[u8]]) -> Result<u32, LineRefused>
+    requires { frames_of enclaves.now ≤ 512 }
+    ensures { Reads (λ x. x) result (spare_line enclaves.now (map (λ word. word.now) words.now)) }
+{
+    let (first, spare) = two(words)?;
+    if first != b"spare".as_slice() || !is_numeral(spare) {
+        return refused(Why::Form);
+    }
+    let Some(spare) = number_up_to(spare, u64::from(MOST_FRAMES)) else {
+        return refused(Why::Range);
+    };
+    if frames_of(enclaves) + spare as u32 > MOST_FRAMES {
+        return refused(Why::Range);
+    }
+    Ok(spare as u32)
+}
+
+/// `wear W`
+pub(crate) fn wear_line(words: &[&[u8]]) -> Result<u64, LineRefused>
+    ensures { Reads (λ x. x) result (wear_line (map (λ word. word.now) words.now)) }
+{
+    let (first, wear) = two(words)?;
+    if first != b"wear".as_slice() || !is_numeral(wear) {
+        return refused(Why::Form);
+    }
+    let Some(wear) = number_up_to(wear, MOST_WEAR) else {
+        return refused(Why::Range);
+    };
+    if wear == 0 {
+        return refused(Why::Range);
+    }
+    Ok(wear)
+}
+
+/// `key HEX`
+pub(crate) fn key_line(alloc: Global, words: &[&[u8]]) -> Result<Bytes, LineRefused>
+    ensures { Reads (λ x. x) result (key_line (map (λ word. word.now) words.now)) }
+{
+    let (first, key) = two(words)?;
+    if first != b"key".as_slice() {
+        return refused(Why::Form);
+    }
+    let Some(key) = hex_bytes(alloc, key)? else {
+        return refused(Why::Form);
+    };
+    if !is_key_length(key.len()) {
+        return refused(Why::Range);
+    }
+    Ok(key)
+}
+
+/// A key has so many bytes.
+fn is_key_length(bytes: usize) -> bool
+    ensures { result ≡ is_key_length bytes }
+{
+    bytes == 16 || bytes == 24 || bytes == 32
+}
+
+/// `start`
+pub(crate) fn start_line(words: &[&[u8]]) -> Result<(), LineRefused>
+    ensures { Reads (λ x. x) result (start_line (map (λ word. word.now) words.now)) }
+{
+    if one(words)? != b"start".as_slice() {
+        return refused(Why::Form);
+    }
+    Ok(())
+}
+
+/// Whether this is the first word of the line.
+pub(crate) fn begins(word: &[u8], words: &[&[u8]]) -> bool
+    ensures { result ≡ begins word.now (map (λ word. word.now) words.now) }
+{
+    match words {
+        [first, ..] => *first == word,
+        [] => false,
+    }
+}
+
+/// Whether the line is one of several that begin with this word, of which there has to be one.
+pub(crate) fn is_one_of<A>(word: &[u8], before: &[A], words: &[&[u8]]) -> bool
+    ensures { result ≡ is_one_of word.now before.now (map (λ word. word.now) words.now) }
+{
+    before.is_empty() || begins(word, words)
+}
