@@ -9,10 +9,7 @@ use std::test::Fail;
 use vectors::VECTORS;
 
 mod cases;
-mod draws;
 mod lines;
-mod plain;
-mod random;
 mod refusals;
 mod vectors;
 
