@@ -14,6 +14,11 @@ use Rattle.eleos_turn.specs.declared.view.View.{View}
 use Rattle.eleos_turn.specs.declared.view.Key.{Key}
 use Rattle.eleos_turn.specs.Numbers.{times, total, most_pins}
 
+-- the value that was told
+abbrev pub told_in : {G : Type 0} → G → List G → G
+told_in none [] = none
+told_in none (told ∷ others) = told
+
 module _ {C D Q G : Type 0} (t : Terms C D Q G) where
   -- no entry of the list is of one of these numbers, or touches one of these cells
   abbrev pub Apart : G → List ℕ → List ℕ → List (Event D Q) → Type 0
@@ -22,7 +27,7 @@ module _ {C D Q G : Type 0} (t : Terms C D Q G) where
 
   -- what was fixed, as the key of the table says
   abbrev pub base_of : Key C G → Base Q G
-  base_of k = record { grounds = k.grounds.value; opening = map t.part k.cells.value.items; hands = k.hands; each = k.each }
+  base_of k = record { grounds = told_in t.nowhere k.grounds.value.me.0; opening = map t.part k.cells.value.items; hands = k.hands; each = k.each }
 
   -- a seat that was joined into another
   abbrev pub gone : View D Q G

@@ -1,6 +1,6 @@
 //! Hands: what one thread has of a turnstile, and what it has seen.
-ghost use Rattle.std.specs.Prelude.{◌≡◌, [], ◌∷◌};
-ghost use Rattle.eleos_turn.specs.Hands.{IsSound, view_of};
+ghost use Rattle.std.specs.Prelude.{◌≡◌, ◌<◌, [], ◌∷◌, length};
+ghost use Rattle.eleos_turn.specs.Hands.{IsSound, links, view_of};
 
 use crate::answers::Refused;
 use crate::view::{Place, View};
@@ -85,6 +85,27 @@ impl<P: Plot> Hand<P> {
         ensures sound { IsSound P.terms self.now }
     {
         self.left
+    }
+
+    /// Its number: 1 and so on for the hands of `make`, 0 for a hand of `split`.
+    pub fn number(&self) -> u32
+        ensures { result ≡ self.now.number }
+    {
+        self.number
+    }
+
+    /// How many turns it has.
+    pub fn turns(&self) -> u64
+        ensures { result ≡ length self.now.turns }
+    {
+        self.turns
+    }
+
+    /// How many links a hand of `make` has.
+    pub fn links(&self) -> u64
+        ensures { 0 < self.now.number → result ≡ length (links P.terms self.now) }
+    {
+        self.links
     }
 
     /// The last try that found a cell busy.

@@ -9,6 +9,7 @@ mod making;
 mod plays;
 mod shelves;
 mod table;
+mod told;
 mod turnstile;
 mod view;
 mod word;

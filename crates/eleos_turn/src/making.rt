@@ -8,31 +8,35 @@ use crate::answers::Refused;
 use crate::hand::Hand;
 use crate::plays::Deal;
 use crate::table::CellTable;
+use crate::told::tell;
 use crate::turnstile::Turnstile;
 use crate::view::{Key, Place};
 use atomic_table::Table;
 use eleos_base::{NoMemory, Plot};
 use std::alloc::Global;
+use std::marker::Brand;
 use std::snapshot::Snapshot;
 
 impl<P: Plot> Turnstile<P> {
     /// Puts the cells into a turnstile, and gives hands with the numbers 1, 2 and so on.
+    /// The ground is picked by the caller, for clauses alone.
     pub fn make(
         alloc: Global,
         cells: Vec<P::Cell>,
-        grounds: Snapshot<P::Ground>,
         hands: u32,
         stamps: u64,
     ) -> Result<(Turnstile<P>, Vec<Hand<P>>), NoMemory>
+        ghost grounds: { P.Ground }
         requires hands { (0 < hands) × (hands ≤ 16) }
         requires stamps { (0 < stamps) × (stamps ≤ 2 ^ 40) }
         requires cells { length cells.items < 2 ^ 31 }
-        ensures base { IfOk result (λ r. r.0.base ≡ record { grounds = grounds.value; opening = map P.terms.part cells.items; hands = hands; each = stamps }) }
+        ensures base { IfOk result (λ r. r.0.base ≡ record { grounds = grounds; opening = map P.terms.part cells.items; hands = hands; each = stamps }) }
         ensures hands { IfOk result (λ r. r.1.items ≡ dealt r.0 0 hands) }
     {
+        let told = tell::<P::Ground, Brand>(alloc)?;
         let key = Key {
             cells: Snapshot::of(&cells),
-            grounds,
+            grounds: Snapshot::of(&told),
             hands: u64::from(hands),
             each: stamps,
         };

@@ -6,7 +6,6 @@ use crate::shelves::{Shelf, Shelves, lay};
 use crate::{CellWord, Closed, Hand, HandsRefused, Taken, Turnstile};
 use std::alloc::{AllocError, Global};
 use std::process::Abort;
-use std::snapshot::Snapshot;
 use std::sync::Wait;
 use std::test::*;
 use std::thread::{Threads, join};
@@ -43,7 +42,7 @@ fn words_of_one_cell_by_hand(rt: HostRuntime) -> Result<(), Fail> {
     let alloc = rt.alloc();
     let cells = counters(alloc, 1)?;
     assert_eq!(rt; cells.len(), 1);
-    let made = Turnstile::<Counters>::make(alloc, cells, Snapshot::of(&()), 2, 10);
+    let made = Turnstile::<Counters>::make(alloc, cells, 2, 10);
     let Ok((all, hands)) = made else {
         return Err("memory".into());
     };
@@ -90,7 +89,7 @@ fn two_threads_stamp_each_number_once(rt: HostRuntime) -> Result<(), Fail> {
     let alloc = rt.alloc();
     let cells = counters(alloc, 2)?;
     assert_eq!(rt; cells.len(), 2);
-    let made = Turnstile::<Counters>::make(alloc, cells, Snapshot::of(&()), 2, 1000);
+    let made = Turnstile::<Counters>::make(alloc, cells, 2, 1000);
     let Ok((all, hands)) = made else {
         return Err("memory".into());
     };
@@ -159,7 +158,7 @@ fn a_hand_rests_in_a_cell_of_another_turnstile(rt: HostRuntime) -> Result<(), Fa
     let alloc = rt.alloc();
     let cells = counters(alloc, 1)?;
     assert_eq!(rt; cells.len(), 1);
-    let made = Turnstile::<Counters>::make(alloc, cells, Snapshot::of(&()), 2, 10);
+    let made = Turnstile::<Counters>::make(alloc, cells, 2, 10);
     let Ok((all, hands)) = made else {
         return Err("memory".into());
     };
@@ -172,7 +171,7 @@ fn a_hand_rests_in_a_cell_of_another_turnstile(rt: HostRuntime) -> Result<(), Fa
         rest: None,
     })?;
     assert_eq!(rt; cells.len(), 1);
-    let made = Turnstile::<Shelves>::make(alloc, cells, Snapshot::of(&()), 1, 10);
+    let made = Turnstile::<Shelves>::make(alloc, cells, 1, 10);
     let Ok((shelves, hands)) = made else {
         return Err("memory".into());
     };

@@ -4,6 +4,7 @@
 ghost use Rattle.std.specs.Prelude.{List, []};
 ghost use Rattle.eleos_base.specs.declared.plot.Event.{Event};
 
+use crate::told::Told;
 use atomic_table::{Seat, TableRule};
 use eleos_base::{Base, Event, Plot};
 use std::collections::LinkedList;
@@ -40,7 +41,8 @@ pub struct View<D, Q, G> {
 /// What is fixed when the table is made.
 pub struct Key<C, G> {
     pub cells: Snapshot<Vec<C>>,
-    pub grounds: Snapshot<G>,
+    /// The ground, as a list of one.
+    pub grounds: Snapshot<Told<G>>,
     pub hands: u64,
     pub each: u64,
 }

@@ -8,10 +8,14 @@ const MOST_ROUNDS: u64 = 1 << 40;
 pub enum Kind {
     /// Adds to one atomic word, in one thread.
     Add,
+    /// Adds to one atomic word in four threads, between adds to a word of the thread's own.
+    Shared,
     /// Turns at one cell, in one thread.
     Turn,
-    /// Turns in four threads, each at a cell of its own.
+    /// Turns in four threads, each at a cell of its own beside the others.
     Four,
+    /// The same, each at a cell far from the others.
+    Apart,
 }
 
 /// What is done, and how many rounds of it in each thread.
@@ -26,8 +30,10 @@ pub struct Order {
 fn kind_of(word: &str) -> Option<Kind> {
     match word {
         "add" => Some(Kind::Add),
+        "shared" => Some(Kind::Shared),
         "turn" => Some(Kind::Turn),
         "four" => Some(Kind::Four),
+        "apart" => Some(Kind::Apart),
         _ => None,
     }
 }

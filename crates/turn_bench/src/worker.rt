@@ -1,5 +1,5 @@
 //! Workers: each makes its rounds at a cell of its own.
-ghost use Rattle.std.specs.Prelude.{◌≡◌, ◌+◌, ◌<◌, [], length, IfSome};
+ghost use Rattle.std.specs.Prelude.{◌≡◌, ◌<◌, ◌≤◌, [], length, IfSome};
 ghost use Rattle.eleos_turn.specs.Hands.{dealt};
 ghost use Rattle.turn_bench.specs.Workers.{IsReady, AreReady};
 
@@ -23,18 +23,25 @@ pub struct Workers {
     pub fourth: Worker,
 }
 
-/// A worker for each of four hands, if there are four.
-pub fn deal_out(all: &Turnstile<Tallies>, hands: Vec<Hand<Tallies>>) -> Option<Workers>
+/// A worker for each of four hands, if there are four. Each has a cell of its own, and their cells
+/// are this many numbers from one another.
+pub fn deal_out(
+    all: &Turnstile<Tallies>,
+    hands: Vec<Hand<Tallies>>,
+    distance: u32,
+) -> Option<Workers>
     requires hands { hands.items ≡ dealt all.now 0 4 }
-    requires cells { length all.now.base.opening ≡ 4 }
+    requires cells { length all.now.base.opening ≡ 64 }
+    requires some { 1 ≤ distance }
+    requires most { distance ≤ 16 }
     ensures ready { IfSome result (λ w. AreReady all.now w) }
 {
     let _ = all;
     let mut hands = hands;
-    let fourth = make_worker(hands.pop()?, 4);
-    let third = make_worker(hands.pop()?, 3);
-    let second = make_worker(hands.pop()?, 2);
-    let first = make_worker(hands.pop()?, 1);
+    let fourth = make_worker(hands.pop()?, 4, distance);
+    let third = make_worker(hands.pop()?, 3, distance);
+    let second = make_worker(hands.pop()?, 2, distance);
+    let first = make_worker(hands.pop()?, 1, distance);
     Some(Workers {
         first,
         second,
@@ -43,16 +50,17 @@ pub fn deal_out(all: &Turnstile<Tallies>, hands: Vec<Hand<Tallies>>) -> Option<W
     })
 }
 
-fn make_worker(hand: Hand<Tallies>, by: u32) -> Worker
-    requires { 0 < by }
+fn make_worker(hand: Hand<Tallies>, by: u32, distance: u32) -> Worker
+    requires by { (0 < by) × (by ≤ 4) }
+    requires distance { (1 ≤ distance) × (distance ≤ 16) }
     ensures hand { result.hand ≡ hand }
     ensures by { result.by ≡ by }
-    ensures cell { result.cell + 1 ≡ by }
+    ensures cell { result.cell < 64 }
 {
     Worker {
         hand,
         by,
-        cell: by - 1,
+        cell: by * distance - 1,
     }
 }
 

@@ -1,0 +1,7 @@
+use Rattle.eleos_turn.proofs.tests.a_hand_rests_in_a_cell_of_another_turnstile.Given as goal
+
+abbrev pub ghost-make : goal.ghost-make
+ghost-make g a = tt
+
+abbrev pub ghost-make-2 : goal.ghost-make-2
+ghost-make-2 g a = tt
