@@ -3,6 +3,7 @@ use Rattle.std.proofs.Common.{◌≡◌, ℕ, ◌<◌, List, length, Option, Som
 use Rattle.std.proofs.lemmas.Bool.Decides.{nat_tests}
 use Rattle.eleos_trace.specs.Reading.{most_text, trace_of}
 use Rattle.eleos_trace.specs.Reasons.{Fails}
+use Rattle.eleos_trace.specs.declared.trace.Kind.{Kind}
 use Rattle.eleos_trace.specs.declared.why.Bad.{Bad}
 use Rattle.eleos_trace.specs.declared.why.Why.{Why}
 use Rattle.eleos_trace.specs.declared.why.Why.TheVariants.{TooLarge}
@@ -24,10 +25,10 @@ pub vectors_in-large : (input : List ℕ) → most_text < length input → vecto
 unfolding vectors_in
 vectors_in-large input large = rw (not_le (length input) most_text large) refl
 
--- nor a trace
-pub trace_of-large : (input : List ℕ) → most_text < length input → trace_of input ≡ Err too_large
+-- nor a trace of any kind
+pub trace_of-large : (kind : Kind) (input : List ℕ) → most_text < length input → trace_of kind input ≡ Err too_large
 unfolding trace_of
-trace_of-large input large = rw (not_le (length input) most_text large) refl
+trace_of-large kind input large = rw (not_le (length input) most_text large) refl
 
 module _ {Y : Type 0} (reader : List ℕ → Result Y Bad) where
   -- too many bytes of a source, where they are told

@@ -1,7 +1,7 @@
 // The addresses of names before the first command.
 ghost use Rattle.std.specs.Prelude.{◌≡◌, ◌<◌, length, IfOk};
 ghost use Rattle.std.specs.FinMap as finmap;
-ghost use Rattle.eleos_trace.specs.Replays.{IsReplay};
+ghost use Rattle.eleos_trace.specs.Kinds.{IsReplay};
 ghost use Rattle.eleos_top.specs.Scenes.{opening_places, with_headers};
 
 use crate::places::Places;

@@ -1,6 +1,7 @@
 // Which top call the words ask for.
 ghost use Rattle.std.specs.Prelude.{◌≡◌, ◌≢◌, ◌↔◌, Some, map, IsTrue, codes, string_bytes};
 ghost use Rattle.std.specs.Io.KnownBytes.{Keeps};
+ghost use Rattle.eleos_trace.specs.declared.trace.Kind.TheVariants.{Replay};
 ghost use Rattle.eleos_trace.specs.Reading.{trace_of};
 ghost use Rattle.eleos_top.specs.GcmAnswers.{AnswersVectors};
 ghost use Rattle.eleos_top.specs.GcmVectors.{vectors_in};
@@ -23,7 +24,7 @@ pub fn main_top<S: Source, K: Sink, P: HostPort + HostHand>(
     host: &mut P,
 ) -> Status
     ensures replay { first_of (map (λ word. string_bytes word) words.now) ≡ Some (codes "replay")
-        → EndsBy trace_of (IsLogOf (P.store host.old)) (codes "replay")
+        → EndsBy (trace_of Replay) (IsLogOf (P.store host.old)) (codes "replay")
         (map (λ word. string_bytes word) words.now) result
         (S.left source.old) (K.got sink.old) (K.got sink.new)
         (S.faults source.old) (S.faults source.new) (K.faults sink.old) (K.faults sink.new) }

@@ -1,8 +1,9 @@
 // The top call on traces of kind replay.
 ghost use Rattle.std.specs.Prelude.{◌≡◌, ◌≢◌, ◌↔◌, [], ◌∷◌, map, codes, IfOk, string_bytes};
 ghost use Rattle.eleos_base.specs.Outside.{HasRisen};
+ghost use Rattle.eleos_trace.specs.declared.trace.Kind.TheVariants.{Replay};
 ghost use Rattle.eleos_trace.specs.Reading.{trace_of};
-ghost use Rattle.eleos_trace.specs.Replays.{IsReplay};
+ghost use Rattle.eleos_trace.specs.Kinds.{IsReplay};
 ghost use Rattle.eleos_top.specs.Outcome.{PutsBy};
 ghost use Rattle.eleos_top.specs.Replays.{IsLogOf};
 
@@ -31,7 +32,7 @@ pub fn replay_top<S: Source, K: Sink, P: HostPort + HostHand>(
     sink: &mut K,
     host: &mut P,
 ) -> Status
-    ensures puts { PutsBy trace_of (IsLogOf (P.store host.old)) result (S.left source.old)
+    ensures puts { PutsBy (trace_of Replay) (IsLogOf (P.store host.old)) result (S.left source.old)
         (K.got sink.old) (K.got sink.new) (K.faults sink.old) (K.faults sink.new) }
     ensures usage { (result ≡ Status.Usage)
         ↔ (map (λ word. string_bytes word) words.now ≢ codes "replay" ∷ []) }

@@ -15,19 +15,45 @@ use Rattle.eleos_trace.specs.Ties.{offset_of, tie_of, untie_of}
 use Rattle.eleos_trace.specs.Frames.{is_move, owner, page_and_frame_of, fill_of, evict_of, move_of}
 use Rattle.eleos_trace.specs.Host.{flip_of, swap_of, place_of, keep_of, restore_of}
 use Rattle.eleos_trace.specs.WholeHeader.{plan_of}
-use Rattle.eleos_trace.specs.Replays.{IsCallerOf, MayGive}
+use Rattle.eleos_trace.specs.declared.trace.Kind.{Kind}
+use Rattle.eleos_trace.specs.declared.trace.Kind.TheVariants.{Run, Replay}
+use Rattle.eleos_base.specs.declared.plan.Plan.{Plan}
+use Rattle.eleos_trace.specs.Kinds.{MayGiveIn}
+use Rattle.eleos_trace.specs.Replays.{IsCallerOf}
 use Rattle.eleos_trace.proofs.Inversion.{bind_ok, guard_ok, ok_is}
 use Rattle.eleos_trace.proofs.Permits.{room_of, both, le_of, caller_of, swapper_of, balloon_actor, host_of, below_of, two_below, place_and_bit, move_ok_owners}
 
--- there was room for the command, and the actor may give it
-pub record IsGiven (header : Header) (seen : Seen) (who : actors.Actor) (word : Word) : Type 0 where
+-- there was room for the command, and the actor may give it in a trace of this kind
+pub record IsGiven (kind : Kind) (header : Header) (seen : Seen) (who : actors.Actor) (word : Word) : Type 0 where
   pub room : seen.commands < 100000
-  pub may : MayGive (plan_of header) who word
+  pub may : MayGiveIn kind (plan_of header) who word
+
+-- what a caller may give in a trace of either kind
+module _ (plan : Plan) (who : actors.Actor) where
+  alloc_may : (kind : Kind) (name : List ℕ) (bytes : ℕ) → IsCallerOf plan who → MayGiveIn kind plan who (Alloc name bytes)
+  alloc_may Run name bytes caller = caller
+  alloc_may Replay name bytes caller = caller
+
+  free_may : (kind : Kind) (name : List ℕ) → IsCallerOf plan who → MayGiveIn kind plan who (Free name)
+  free_may Run name caller = caller
+  free_may Replay name caller = caller
+
+  share_may : (kind : Kind) (name : List ℕ) → IsCallerOf plan who → MayGiveIn kind plan who (Share name)
+  share_may Run name caller = caller
+  share_may Replay name caller = caller
+
+  read_may : (kind : Kind) (name : List ℕ) (offset len : ℕ) → IsCallerOf plan who → MayGiveIn kind plan who (Read name offset len)
+  read_may Run name offset len caller = caller
+  read_may Replay name offset len caller = caller
+
+  write_may : (kind : Kind) (name : List ℕ) (offset : ℕ) (bytes : List ℕ) → IsCallerOf plan who → length bytes ≤ 2048 → MayGiveIn kind plan who (Write name offset bytes)
+  write_may Run name offset bytes caller few = (caller, few)
+  write_may Replay name offset bytes caller few = (caller, few)
 
 module _ (header : Header) (seen : Seen) (who : actors.Actor) where
   -- a command of which there is no more to say
-  given : (made word : Word) → seen.commands < 100000 → MayGive (plan_of header) who made → ◌≡◌ {A = Result Word Why} (Ok made) (Ok word) → IsGiven header seen who word
-  given made word room may is = subst (λ (w : Word). IsGiven header seen who w) (ok_is made word is) (record { room = room; may = may })
+  given : (kind : Kind) (made word : Word) → seen.commands < 100000 → MayGiveIn kind (plan_of header) who made → ◌≡◌ {A = Result Word Why} (Ok made) (Ok word) → IsGiven kind header seen who word
+  given kind made word room may is = subst (λ (w : Word). IsGiven kind header seen who w) (ok_is made word is) (record { room = room; may = may })
 
   module _ (args : List (List ℕ)) where
     name_ok : (name : List ℕ) → name_of header seen who args ≡ Ok name → (seen.commands < 100000) × IsCallerOf (plan_of header) who
@@ -63,69 +89,69 @@ module _ (header : Header) (seen : Seen) (who : actors.Actor) where
         (room_of seen many.0, subst (λ (p : ℕ). (who ≡ Host) × (p < places header.plan)) (ok_is (number a.0) place range.1) (host_of who actor.0, below_of (places header.plan) a.0 range.0))
 
     module _ (word : Word) where
-      pub alloc_ok : alloc_of header seen who args ≡ Ok word → IsGiven header seen who word
-      alloc_ok e =
+      pub alloc_ok : (kind : Kind) → alloc_of header seen who args ≡ Ok word → IsGiven kind header seen who word
+      alloc_ok kind e =
           let a = bind_ok (two args) _ word e in
           let many = guard_ok _ _ _ word (guard_ok _ _ _ word a.2).1 in
           let actor = guard_ok _ _ _ word many.1 in
           let name = guard_ok _ _ _ word (guard_ok _ _ _ word actor.1).1 in
-          given (Alloc a.0.0 (number a.0.1)) word (room_of seen many.0) (caller_of header who actor.0) name.1
+          given kind (Alloc a.0.0 (number a.0.1)) word (room_of seen many.0) (alloc_may (plan_of header) who kind a.0.0 (number a.0.1) (caller_of header who actor.0)) name.1
 
-      pub free_ok : free_of header seen who args ≡ Ok word → IsGiven header seen who word
-      free_ok e =
+      pub free_ok : (kind : Kind) → free_of header seen who args ≡ Ok word → IsGiven kind header seen who word
+      free_ok kind e =
           let a = bind_ok (name_of header seen who args) (λ name. Ok (Free name)) word e in
           let b = name_ok a.0 a.1 in
-          given (Free a.0) word b.0 b.1 a.2
+          given kind (Free a.0) word b.0 (free_may (plan_of header) who kind a.0 b.1) a.2
 
-      pub share_ok : share_of header seen who args ≡ Ok word → IsGiven header seen who word
-      share_ok e =
+      pub share_ok : (kind : Kind) → share_of header seen who args ≡ Ok word → IsGiven kind header seen who word
+      share_ok kind e =
           let a = bind_ok (name_of header seen who args) (λ name. Ok (Share name)) word e in
           let b = name_ok a.0 a.1 in
-          given (Share a.0) word b.0 b.1 a.2
+          given kind (Share a.0) word b.0 (share_may (plan_of header) who kind a.0 b.1) a.2
 
-      pub read_ok : read_of header seen who args ≡ Ok word → IsGiven header seen who word
-      read_ok e =
+      pub read_ok : (kind : Kind) → read_of header seen who args ≡ Ok word → IsGiven kind header seen who word
+      read_ok kind e =
           let a = bind_ok (three args) _ word e in
           let many = guard_ok _ _ _ word (guard_ok _ _ _ word a.2).1 in
           let actor = guard_ok _ _ _ word many.1 in
           let name = guard_ok _ _ _ word (guard_ok _ _ _ word actor.1).1 in
-          given (Read a.0.0 (number a.0.1) (number a.0.2)) word (room_of seen many.0) (caller_of header who actor.0) name.1
+          given kind (Read a.0.0 (number a.0.1) (number a.0.2)) word (room_of seen many.0) (read_may (plan_of header) who kind a.0.0 (number a.0.1) (number a.0.2) (caller_of header who actor.0)) name.1
 
-      pub write_ok : write_of header seen who args ≡ Ok word → IsGiven header seen who word
-      write_ok e =
+      pub write_ok : (kind : Kind) → write_of header seen who args ≡ Ok word → IsGiven kind header seen who word
+      write_ok kind e =
           let a = bind_ok (three args) _ word e in
           let many = guard_ok _ _ _ word (guard_ok _ _ _ word a.2).1 in
           let actor = guard_ok _ _ _ word many.1 in
           let range = guard_ok _ _ _ word actor.1 in
           let name = guard_ok _ _ _ word range.1 in
           let few : length (bytes_in a.0.2) ≤ 2048 = (both (is_up_to most_u32 a.0.1) (nat_le (length (bytes_in a.0.2)) 2048) (λ test. test) (le_of _ _) range.0).1 in
-          given (Write a.0.0 (number a.0.1) (bytes_in a.0.2)) word (room_of seen many.0) (caller_of header who actor.0, few) name.1
+          given kind (Write a.0.0 (number a.0.1) (bytes_in a.0.2)) word (room_of seen many.0) (write_may (plan_of header) who kind a.0.0 (number a.0.1) (bytes_in a.0.2) (caller_of header who actor.0) few) name.1
 
-      pub tie_ok : tie_of header seen who args ≡ Ok word → IsGiven header seen who word
+      pub tie_ok : tie_of header seen who args ≡ Ok word → IsGiven Replay header seen who word
       tie_ok e =
           let a = bind_ok (offset_of header seen who args) (λ at. Ok (Tie at.0 at.1)) word e in
           let b = offset_ok a.0 a.1 in
-          given (Tie a.0.0 a.0.1) word b.0 b.1 a.2
+          given Replay (Tie a.0.0 a.0.1) word b.0 b.1 a.2
 
-      pub untie_ok : untie_of header seen who args ≡ Ok word → IsGiven header seen who word
+      pub untie_ok : untie_of header seen who args ≡ Ok word → IsGiven Replay header seen who word
       untie_ok e =
           let a = bind_ok (offset_of header seen who args) (λ at. Ok (Untie at.0 at.1)) word e in
           let b = offset_ok a.0 a.1 in
-          given (Untie a.0.0 a.0.1) word b.0 b.1 a.2
+          given Replay (Untie a.0.0 a.0.1) word b.0 b.1 a.2
 
-      pub fill_ok : fill_of header seen who args ≡ Ok word → IsGiven header seen who word
+      pub fill_ok : fill_of header seen who args ≡ Ok word → IsGiven Replay header seen who word
       fill_ok e =
           let a = bind_ok (page_and_frame_of header seen who args) (λ pair. Ok (Fill pair.0 pair.1)) word e in
           let b = page_and_frame_ok a.0 a.1 in
-          given (Fill a.0.0 a.0.1) word b.0 b.1 a.2
+          given Replay (Fill a.0.0 a.0.1) word b.0 b.1 a.2
 
-      pub evict_ok : evict_of header seen who args ≡ Ok word → IsGiven header seen who word
+      pub evict_ok : evict_of header seen who args ≡ Ok word → IsGiven Replay header seen who word
       evict_ok e =
           let a = bind_ok (page_and_frame_of header seen who args) (λ pair. Ok (Evict pair.0 pair.1)) word e in
           let b = page_and_frame_ok a.0 a.1 in
-          given (Evict a.0.0 a.0.1) word b.0 b.1 a.2
+          given Replay (Evict a.0.0 a.0.1) word b.0 b.1 a.2
 
-      pub move_ok : move_of header seen who args ≡ Ok word → IsGiven header seen who word
+      pub move_ok : move_of header seen who args ≡ Ok word → IsGiven Replay header seen who word
       move_ok e =
           let a = bind_ok (three args) _ word e in
           let form = guard_ok _ _ _ word a.2 in
@@ -134,34 +160,34 @@ module _ (header : Header) (seen : Seen) (who : actors.Actor) where
           let range = guard_ok _ _ _ word actor.1 in
           let home = guard_ok _ _ _ word range.1 in
           let move : is_move a.0.1 a.0.2 ≡ true = (both (is_numeral a.0.0) (is_move a.0.1 a.0.2) (λ test. test) (λ test. test) form.0).1 in
-          given (Move (number a.0.0) (owner a.0.1) (owner a.0.2)) word (room_of seen many.0) (balloon_actor who actor.0, below_of (all_frames header.plan) a.0.0 range.0, move_ok_owners header a.0.1 a.0.2 move home.0) home.1
+          given Replay (Move (number a.0.0) (owner a.0.1) (owner a.0.2)) word (room_of seen many.0) (balloon_actor who actor.0, below_of (all_frames header.plan) a.0.0 range.0, move_ok_owners header a.0.1 a.0.2 move home.0) home.1
 
-      pub flip_ok : flip_of header seen who args ≡ Ok word → IsGiven header seen who word
+      pub flip_ok : flip_of header seen who args ≡ Ok word → IsGiven Replay header seen who word
       flip_ok e =
           let a = bind_ok (two args) _ word e in
           let many = guard_ok _ _ _ word (guard_ok _ _ _ word a.2).1 in
           let actor = guard_ok _ _ _ word many.1 in
           let range = guard_ok _ _ _ word actor.1 in
           let limits = place_and_bit (places header.plan) a.0.0 a.0.1 range.0 in
-          given (Flip (number a.0.0) (number a.0.1)) word (room_of seen many.0) (host_of who actor.0, limits.0, limits.1) range.1
+          given Replay (Flip (number a.0.0) (number a.0.1)) word (room_of seen many.0) (host_of who actor.0, limits.0, limits.1) range.1
 
-      pub swap_ok : swap_of header seen who args ≡ Ok word → IsGiven header seen who word
+      pub swap_ok : swap_of header seen who args ≡ Ok word → IsGiven Replay header seen who word
       swap_ok e =
           let a = bind_ok (two args) _ word e in
           let many = guard_ok _ _ _ word (guard_ok _ _ _ word a.2).1 in
           let actor = guard_ok _ _ _ word many.1 in
           let range = guard_ok _ _ _ word actor.1 in
           let limits = two_below (places header.plan) (places header.plan) a.0.0 a.0.1 range.0 in
-          given (SwapPlaces (number a.0.0) (number a.0.1)) word (room_of seen many.0) (host_of who actor.0, limits.0, limits.1) range.1
+          given Replay (SwapPlaces (number a.0.0) (number a.0.1)) word (room_of seen many.0) (host_of who actor.0, limits.0, limits.1) range.1
 
-      pub keep_ok : keep_of header seen who args ≡ Ok word → IsGiven header seen who word
+      pub keep_ok : keep_of header seen who args ≡ Ok word → IsGiven Replay header seen who word
       keep_ok e =
           let a = bind_ok (place_of header seen who args) (λ place. Ok (Keep place)) word e in
           let b = place_ok a.0 a.1 in
-          given (Keep a.0) word b.0 b.1 a.2
+          given Replay (Keep a.0) word b.0 b.1 a.2
 
-      pub restore_ok : restore_of header seen who args ≡ Ok word → IsGiven header seen who word
+      pub restore_ok : restore_of header seen who args ≡ Ok word → IsGiven Replay header seen who word
       restore_ok e =
           let a = bind_ok (place_of header seen who args) (λ place. Ok (Restore place)) word e in
           let b = place_ok a.0 a.1 in
-          given (Restore a.0) word b.0 b.1 a.2
+          given Replay (Restore a.0) word b.0 b.1 a.2

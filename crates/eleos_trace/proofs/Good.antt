@@ -24,7 +24,8 @@ use Rattle.eleos_trace.specs.Homes.{most_pages, enclave_line, caller_line, AreGo
 use Rattle.eleos_trace.specs.Blocks.{has_space, may_own, block_line, EachFindsRoom, AreGoodBlocks}
 use Rattle.eleos_trace.specs.WholeHeader.{plan_of, IsGoodHeader}
 use Rattle.eleos_trace.specs.Reading.{trace_with}
-use Rattle.eleos_trace.specs.Replays.{AreGiven, IsReplay}
+use Rattle.eleos_trace.specs.declared.trace.Kind.{Kind}
+use Rattle.eleos_trace.specs.Kinds.{AreGiven, IsTrace}
 use Rattle.eleos_trace.proofs.Inversion.{bind_ok, guard_ok, ok_is}
 
 -- one more
@@ -182,12 +183,16 @@ plan_ok header good = record {
   blocks = blocks_beside header.plan (map (λ named. named.block) header.blocks) header.blocks good.blocks.each;
 }
 
--- a trace of a good header and good commands is good
-pub trace_ok : (header : Header) (lines : List Line) → IsGoodHeader header → AreGiven (plan_of header) lines → IsReplay (trace_with header lines)
-trace_ok header lines good given = record {
+trace_here : (header : Header) (lines : List Line) → IsGoodHeader header → AreGiven header.kind (plan_of header) lines → IsTrace header.kind (trace_with header lines)
+trace_here header lines good given = record {
+  kind_is = refl;
   good = plan_ok header good;
   room = good.blocks.room;
   key = good.key;
   names = length-map header.blocks (λ named. named.name) ∙ sym (length-map header.blocks (λ named. named.block));
   lines = given;
 }
+
+-- a trace of a good header and good commands is good
+pub trace_ok : (kind : Kind) (header : Header) (lines : List Line) → header.kind ≡ kind → IsGoodHeader header → AreGiven header.kind (plan_of header) lines → IsTrace kind (trace_with header lines)
+trace_ok kind header lines is good given = subst (λ (k : Kind). IsTrace k (trace_with header lines)) is (trace_here header lines good given)

@@ -6,9 +6,12 @@ pub mod Frames
 pub mod Header
 pub mod Homes
 pub mod Host
+pub mod Kinds
 pub mod Machines
+pub mod Planned
 pub mod Reading
 pub mod Reasons
+pub mod ReplayForms
 pub mod Replays
 pub mod Rooms
 pub mod RunForms

@@ -1,6 +1,7 @@
 -- The meaning of a text: its trace, or its first bad line with the reason.
 use Rattle.std.specs.Prelude.{ℕ, ◌+◌, List, [], ◌∷◌, length, map, nat_le, Result, Ok, Err, codes, if◌then◌else◌}
 use Rattle.std.specs.List.{slice_split}
+use Rattle.eleos_trace.specs.declared.trace.Kind.{Kind}
 use Rattle.eleos_trace.specs.declared.trace.Line.{Line}
 use Rattle.eleos_trace.specs.declared.trace.Trace.{Trace}
 use Rattle.eleos_trace.specs.declared.why.Why.TheVariants.{TooLarge, Cut, After}
@@ -33,15 +34,15 @@ commands_of header line seen (text ∷ next ∷ texts) = if is (codes "end") tex
 
 -- the trace with this header and these commands
 abbrev pub trace_with : Header → List Line → Trace
-trace_with header lines = record { plan = plan_of header; key = header.key; names = map (λ named. named.name) header.blocks; lines = lines }
+trace_with header lines = record { kind = header.kind; plan = plan_of header; key = header.key; names = map (λ named. named.name) header.blocks; lines = lines }
 
--- the trace of these lines
-unfoldable pub lines_of : List (List ℕ) → Result Trace Bad
-lines_of texts = do
-  header ← header_of texts
+-- the trace of this kind that these lines are
+unfoldable pub lines_of : Kind → List (List ℕ) → Result Trace Bad
+lines_of kind texts = do
+  header ← header_of kind texts
   lines ← commands_of header.0 (header_lines header.0 + 1) (nothing_seen header.0) header.1
   Ok (trace_with header.0 lines)
 
--- the trace of a text
-unfoldable pub trace_of : List ℕ → Result Trace Bad
-trace_of input = if nat_le (length input) most_text then lines_of (slice_split is_newline input) else Err (record { line = 0; why = TooLarge })
+-- the trace of this kind that a text is
+unfoldable pub trace_of : Kind → List ℕ → Result Trace Bad
+trace_of kind input = if nat_le (length input) most_text then lines_of kind (slice_split is_newline input) else Err (record { line = 0; why = TooLarge })

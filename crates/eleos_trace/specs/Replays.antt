@@ -1,15 +1,11 @@
--- What every trace of kind replay keeps to.
-use Rattle.std.specs.Prelude.{◌≡◌, ℕ, ◌≤◌, ◌<◌, List, length, All, Option, Some, None}
+-- Who may give which command of a replay.
+use Rattle.std.specs.Prelude.{◌≡◌, ℕ, ◌≤◌, ◌<◌, length, Option, Some, None}
 use Rattle.eleos_base.specs.declared.plan.Plan.{Plan}
-use Rattle.eleos_base.specs.AesKey.{IsKeyLength}
-use Rattle.eleos_base.specs.Plans.{IsGood, IsCaller}
+use Rattle.eleos_base.specs.Plans.{IsCaller}
 use Rattle.eleos_trace.specs.declared.word.Actor as actors
 use Rattle.eleos_trace.specs.declared.word.Actor.TheVariants.{Caller, Swapper, Balloon, Host}
 use Rattle.eleos_trace.specs.declared.word.Word.{Word}
 use Rattle.eleos_trace.specs.declared.word.Word.TheVariants.{Alloc, Free, Share, Read, Write, Tie, Untie, Fill, Evict, Move, Flip, SwapPlaces, Keep, Restore}
-use Rattle.eleos_trace.specs.declared.trace.Line.{Line}
-use Rattle.eleos_trace.specs.declared.trace.Trace.{Trace}
-use Rattle.eleos_trace.specs.Blocks.{EachFindsRoom}
 use Rattle.eleos_trace.specs.Machines.{all_pages, all_frames, places}
 
 -- the number of a caller
@@ -44,16 +40,3 @@ MayGive plan who (Flip place bit) = (who ≡ Host) × (place < places plan) × (
 MayGive plan who (SwapPlaces a b) = (who ≡ Host) × (a < places plan) × (b < places plan)
 MayGive plan who (Keep place) = (who ≡ Host) × (place < places plan)
 MayGive plan who (Restore place) = (who ≡ Host) × (place < places plan)
-
--- not too many commands, each by an actor that may give it
-pub record AreGiven (plan : Plan) (lines : List Line) : Type 0 where
-  pub each : All (λ line. MayGive plan line.actor line.command) lines
-  pub few : length lines ≤ 100000
-
--- a good plan with room for its header blocks, a key of a good length, a name for each block, and commands that the actors may give
-pub record IsReplay (trace : Trace) : Type 0 where
-  pub good : IsGood trace.plan
-  pub room : EachFindsRoom trace.plan
-  pub key : IsKeyLength (length trace.key)
-  pub names : length trace.names ≡ length trace.plan.blocks
-  pub lines : AreGiven trace.plan trace.lines

@@ -17,34 +17,34 @@ is_signed (c ∷ digits) = if c == 45 then is_numeral digits && not (is (codes "
 abbrev pub is_call : List ℕ → Bool
 is_call word = is (codes "echo") word || is (codes "put") word || is (codes "get") word || is (codes "cut") word || is (codes "clock") word
 
--- a command of kind run, which has its form or not
-abbrev pub of_run : Seen → Bool → Result Word Why
-of_run seen form = refusal ((form, Form) ∷ (has_room seen, Many) ∷ []) Actor
+-- a command of the other kind, which has its form or not
+abbrev pub of_other_kind : Seen → Bool → Result Word Why
+of_other_kind seen form = refusal ((form, Form) ∷ (has_room seen, Many) ∷ []) Actor
 
 -- `point PTR NAME` and `copy PTR PTR`
 abbrev pub point_of : Seen → List (List ℕ) → Result Word Why
-point_of seen = with_two (λ pointer name. of_run seen (is_name pointer && is_name name))
+point_of seen = with_two (λ pointer name. of_other_kind seen (is_name pointer && is_name name))
 
 -- `drop PTR`, `link PTR` and `unlink PTR`
 abbrev pub link_of : Seen → List (List ℕ) → Result Word Why
-link_of seen = with_one (λ pointer. of_run seen (is_name pointer))
+link_of seen = with_one (λ pointer. of_other_kind seen (is_name pointer))
 
 -- `step PTR N`
 abbrev pub step_of : Seen → List (List ℕ) → Result Word Why
-step_of seen = with_two (λ pointer bytes. of_run seen (is_name pointer && is_signed bytes))
+step_of seen = with_two (λ pointer bytes. of_other_kind seen (is_name pointer && is_signed bytes))
 
 -- `sread PTR N`
 abbrev pub sread_of : Seen → List (List ℕ) → Result Word Why
-sread_of seen = with_two (λ pointer len. of_run seen (is_name pointer && is_numeral len))
+sread_of seen = with_two (λ pointer len. of_other_kind seen (is_name pointer && is_numeral len))
 
 -- `swrite PTR HEX`
 abbrev pub swrite_of : Seen → List (List ℕ) → Result Word Why
-swrite_of seen = with_two (λ pointer hex. of_run seen (is_name pointer && is_hex hex))
+swrite_of seen = with_two (λ pointer hex. of_other_kind seen (is_name pointer && is_hex hex))
 
 -- `balloon ENCLAVE TO`; `swap ENCLAVE LOW` has the form of the host's `swap`
 abbrev pub balloon_of : Seen → List (List ℕ) → Result Word Why
-balloon_of seen = with_two (λ enclave to. of_run seen (is_numeral enclave && is_numeral to))
+balloon_of seen = with_two (λ enclave to. of_other_kind seen (is_numeral enclave && is_numeral to))
 
 -- `call WORD HEX ROOM`
 abbrev pub call_of : Seen → List (List ℕ) → Result Word Why
-call_of seen = with_three (λ call hex room. of_run seen (is_call call && is_hex hex && is_numeral room))
+call_of seen = with_three (λ call hex room. of_other_kind seen (is_call call && is_hex hex && is_numeral room))

@@ -3,6 +3,8 @@ use Rattle.std.specs.Prelude.{ℕ, List, [], ◌∷◌, ◌++◌, Option, Some, 
 use Rattle.std.specs.List.{join_with_byte}
 use Rattle.std.specs.Fmt.{decimal}
 use Rattle.hex.specs.Hex.{encode_lower}
+use Rattle.eleos_trace.specs.declared.trace.Kind.{Kind}
+use Rattle.eleos_trace.specs.declared.trace.Kind.TheVariants.{Run, Replay}
 use Rattle.eleos_trace.specs.declared.why.Why.{Why}
 use Rattle.eleos_trace.specs.declared.why.Why.TheVariants.{TooLarge, Cut, After, Form, Many, Actor, Range, Name, Enclave, BadSize, NoSpace, Owner, Later}
 use Rattle.eleos_trace.specs.declared.word.Actor as actors
@@ -14,6 +16,11 @@ use Rattle.eleos_trace.specs.declared.word.Word.TheVariants.{Alloc, Free, Share,
 abbrev pub hex_text : List ℕ → List ℕ
 hex_text [] = codes "-"
 hex_text (b ∷ bs) = encode_lower (b ∷ bs)
+
+-- a kind of trace
+abbrev pub kind_text : Kind → List ℕ
+kind_text Run = codes "run"
+kind_text Replay = codes "replay"
 
 -- a reason, as it is printed
 abbrev pub why_text : Why → List ℕ

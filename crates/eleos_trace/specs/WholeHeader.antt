@@ -5,6 +5,7 @@ use Rattle.eleos_base.specs.declared.plan.Plan.{Plan}
 use Rattle.eleos_base.specs.declared.plan.EnclavePlan.{EnclavePlan}
 use Rattle.eleos_base.specs.AesKey.{IsKeyLength}
 use Rattle.eleos_base.specs.Plans.{IsGood}
+use Rattle.eleos_trace.specs.declared.trace.Kind.{Kind}
 use Rattle.eleos_trace.specs.declared.why.Why.{Why}
 use Rattle.eleos_trace.specs.declared.why.Why.TheVariants.{Cut}
 use Rattle.eleos_trace.specs.declared.why.Bad.{Bad}
@@ -56,10 +57,10 @@ callers_of enclaves line = items_of (is_one_of (codes "caller")) (caller_line en
 abbrev pub blocks_of : Plan → ℕ → List (List ℕ) → Result (List NamedBlock × List (List ℕ)) Bad
 blocks_of plan line = items_of (λ before words. begins (codes "block") words) (block_line plan) line []
 
--- the lines that say what the machine is made of, and the lines behind them
-unfoldable pub machine_of : List (List ℕ) → Result (Plan × List (List ℕ)) Bad
-machine_of lines = do
-  title ← next_line 1 title_line lines
+-- the lines that say the kind and what the machine is made of, and the lines behind them
+unfoldable pub machine_of : Kind → List (List ℕ) → Result (Plan × List (List ℕ)) Bad
+machine_of kind lines = do
+  title ← next_line 1 (title_line kind) lines
   enclaves ← enclaves_of 2 title.1
   spare ← next_line (length enclaves.0 + 2) (spare_line enclaves.0) enclaves.1
   callers ← callers_of enclaves.0 (length enclaves.0 + 3) spare.1
@@ -70,14 +71,14 @@ machine_of lines = do
 abbrev pub machine_lines : Plan → ℕ
 machine_lines plan = length plan.enclaves + length plan.callers + 3
 
--- the header of these lines, and the lines behind it
-unfoldable pub header_of : List (List ℕ) → Result (Header × List (List ℕ)) Bad
-header_of lines = do
-  machine ← machine_of lines
+-- the header of these lines, which begin a trace of this kind, and the lines behind it
+unfoldable pub header_of : Kind → List (List ℕ) → Result (Header × List (List ℕ)) Bad
+header_of kind lines = do
+  machine ← machine_of kind lines
   key ← next_line (machine_lines machine.0 + 1) key_line machine.1
   blocks ← blocks_of machine.0 (machine_lines machine.0 + 2) key.1
   start ← next_line (machine_lines machine.0 + length blocks.0 + 2) start_line blocks.1
-  Ok (record { plan = machine.0; key = key.0; blocks = blocks.0 }, start.1)
+  Ok (record { kind = kind; plan = machine.0; key = key.0; blocks = blocks.0 }, start.1)
 
 -- the lines of a header
 abbrev pub header_lines : Header → ℕ

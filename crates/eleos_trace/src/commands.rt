@@ -15,7 +15,7 @@ use eleos_base::Bytes;
 use std::alloc::Global;
 
 /// Bytes of a write.
-const MOST_BYTES: usize = 2048;
+pub(crate) const MOST_BYTES: usize = 2048;
 
 /// `alloc NAME N` binds a new name.
 pub(crate) fn alloc_of(

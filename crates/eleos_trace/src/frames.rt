@@ -117,7 +117,7 @@ fn is_pool(text: &[u8]) -> bool
 }
 
 /// Whether one of both is the pool, and the other a number.
-fn is_move(from: &[u8], to: &[u8]) -> bool
+pub(crate) fn is_move(from: &[u8], to: &[u8]) -> bool
     ensures { result ≡ is_move from.now to.now }
 {
     is_pool(from) && is_numeral(to) || is_numeral(from) && is_pool(to)

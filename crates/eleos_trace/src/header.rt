@@ -2,6 +2,7 @@
 ghost use Rattle.std.specs.Prelude.{◌≡◌};
 ghost use Rattle.eleos_trace.specs.Blocks.{has_name};
 
+use crate::Kind;
 use eleos_base::{BlockPlan, Bytes, List, Plan};
 
 mod blocks;
@@ -10,6 +11,7 @@ mod lines;
 mod rooms;
 mod whole;
 
+pub(crate) use homes::MOST_FRAMES;
 pub(crate) use whole::{header_lines, header_of};
 
 /// A header block with its name.
@@ -22,6 +24,7 @@ pub(crate) struct NamedBlock {
 /// What the header says. The plan is without the blocks.
 #[derive(Debug, Drop)]
 pub(crate) struct Header {
+    pub kind: Kind,
     pub plan: Plan,
     pub key: Bytes,
     pub blocks: List<NamedBlock>,

@@ -10,7 +10,9 @@ mod header;
 mod host;
 mod machines;
 mod names;
+mod planned;
 mod reading;
+mod replay_forms;
 mod run_forms;
 mod seen;
 pub mod splits;
@@ -21,7 +23,7 @@ mod why;
 mod word;
 
 pub use reading::{is_end, nothing_after, parse};
-pub use trace::{Line, Trace};
+pub use trace::{Kind, Line, Trace};
 pub use why::{Bad, LineRefused, TraceRefused, Why, at_line, refused};
 pub use word::{Actor, Word};
 

@@ -7,7 +7,7 @@ ghost use Rattle.eleos_trace.specs.WholeHeader.{header_lines, plan_of, IsGoodHea
 ghost use Rattle.eleos_trace.specs.Reasons.{Gives};
 ghost use Rattle.eleos_trace.specs.Reading.{trace_of, lines_of, commands_of, ended};
 ghost use Rattle.eleos_trace.specs.Reading.{trace_with, most_text};
-ghost use Rattle.eleos_trace.specs.Replays.{AreGiven, IsReplay};
+ghost use Rattle.eleos_trace.specs.Kinds.{AreGiven, IsTrace};
 ghost use Rattle.eleos_trace.specs.Seen.{nothing_seen};
 
 use crate::header::{Header, NamedBlock, header_lines, header_of};
@@ -15,18 +15,18 @@ use crate::seen::Seen;
 use crate::splits::{first_line, words_of};
 use crate::verbs::line_of;
 use crate::why::at_line;
-use crate::{Line, Trace, TraceRefused, Why};
+use crate::{Kind, Line, Trace, TraceRefused, Why};
 use eleos_base::{BlockPlan, Bytes, List};
 use std::alloc::{AllocError, Global};
 
 /// Bytes of a text.
 const MOST_TEXT: usize = 16_777_216;
 
-/// The trace of a text, or its first bad line.
+/// The trace of this kind that a text is, or its first bad line.
 #[tactic(auto, unfolding(crate::specs::Reading::trace_of))]
-pub fn parse(alloc: Global, bytes: &[u8]) -> Result<Trace, TraceRefused>
-    ensures exact { Gives (λ trace. trace) result (trace_of bytes.now) }
-    ensures good { IfOk result (λ trace. IsReplay trace) }
+pub fn parse(alloc: Global, kind: Kind, bytes: &[u8]) -> Result<Trace, TraceRefused>
+    ensures exact { Gives (λ trace. trace) result (trace_of kind bytes.now) }
+    ensures good { IfOk result (λ trace. IsTrace kind trace) }
 {
     if bytes.len() > MOST_TEXT {
         return Err(TraceRefused::Bad {
@@ -34,16 +34,16 @@ pub fn parse(alloc: Global, bytes: &[u8]) -> Result<Trace, TraceRefused>
             why: Why::TooLarge,
         });
     }
-    trace_in(alloc, bytes)
+    trace_in(alloc, kind, bytes)
 }
 
 #[tactic(auto, unfolding(crate::specs::Reading::lines_of))]
-fn trace_in(alloc: Global, text: &[u8]) -> Result<Trace, TraceRefused>
+fn trace_in(alloc: Global, kind: Kind, text: &[u8]) -> Result<Trace, TraceRefused>
     requires { length text.now ≤ most_text }
-    ensures given { Gives (λ trace. trace) result (lines_of (slice_split is_newline text.now)) }
-    ensures good { IfOk result (λ trace. IsReplay trace) }
+    ensures given { Gives (λ trace. trace) result (lines_of kind (slice_split is_newline text.now)) }
+    ensures good { IfOk result (λ trace. IsTrace kind trace) }
 {
-    let (header, text) = header_of(alloc, text)?;
+    let (header, text) = header_of(alloc, kind, text)?;
     let lines = commands_of(alloc, &header, text)?;
     Ok(trace_with(alloc, header, lines)?)
 }
@@ -52,11 +52,17 @@ fn trace_in(alloc: Global, text: &[u8]) -> Result<Trace, TraceRefused>
 fn trace_with(alloc: Global, header: Header, lines: Vec<Line>) -> Result<Trace, AllocError>
     ensures { IfOk result (λ trace. trace ≡ trace_with header lines.items) }
 {
-    let Header { plan, key, blocks } = header;
+    let Header {
+        kind,
+        plan,
+        key,
+        blocks,
+    } = header;
     let mut plan = plan;
     let (names, blocks) = parted(alloc, blocks.into_vec())?;
     plan.blocks = List::of(blocks);
     Ok(Trace {
+        kind,
         plan,
         key,
         names: List::of(names),
@@ -86,7 +92,7 @@ fn commands_of(alloc: Global, header: &Header, text: &[u8]) -> Result<Vec<Line>,
     ensures given { Gives (λ lines. lines.items) result
         (commands_of header.now (header_lines header.now + 1) (nothing_seen header.now)
         (slice_split is_newline text.now)) }
-    ensures good { IfOk result (λ lines. AreGiven (plan_of header.now) lines.items) }
+    ensures good { IfOk result (λ lines. AreGiven header.now.kind (plan_of header.now) lines.items) }
 {
     let mut seen = Seen::nothing(alloc, header)?;
     let mut lines = Vec::new(alloc);

@@ -1,6 +1,6 @@
 // Commands of kind run: in a replay nobody may give them.
 ghost use Rattle.std.specs.Prelude.{◌≡◌, List, ℕ, map, IfOk};
-ghost use Rattle.eleos_trace.specs.RunForms.{is_signed, is_call, of_run, point_of, link_of};
+ghost use Rattle.eleos_trace.specs.RunForms.{is_signed, is_call, of_other_kind, point_of, link_of};
 ghost use Rattle.eleos_trace.specs.RunForms.{step_of, sread_of, swrite_of, balloon_of, call_of};
 ghost use Rattle.eleos_trace.specs.Reasons.{Reads};
 
@@ -12,7 +12,7 @@ use crate::{Why, Word};
 use std::alloc::Global;
 
 /// Whether it is a number, with a minus before it where it is below zero.
-fn is_signed(text: &[u8]) -> bool
+pub(crate) fn is_signed(text: &[u8]) -> bool
     ensures { result ≡ is_signed text.now }
 {
     match text {
@@ -22,7 +22,7 @@ fn is_signed(text: &[u8]) -> bool
 }
 
 /// Whether it is a call of the table.
-fn is_call(word: &[u8]) -> bool
+pub(crate) fn is_call(word: &[u8]) -> bool
     ensures { result ≡ is_call word.now }
 {
     word == b"echo".as_slice()
@@ -32,9 +32,9 @@ fn is_call(word: &[u8]) -> bool
         || word == b"clock".as_slice()
 }
 
-/// A command of kind run, which has its form or not.
-fn of_run(seen: &Seen, form: bool) -> Result<Word, LineRefused>
-    ensures { Reads (λ word. word) result (of_run seen.now form) }
+/// A command of the other kind, which has its form or not.
+pub(crate) fn of_other_kind(seen: &Seen, form: bool) -> Result<Word, LineRefused>
+    ensures { Reads (λ word. word) result (of_other_kind seen.now form) }
 {
     if !form {
         return refused(Why::Form);
@@ -50,14 +50,14 @@ pub(crate) fn point_of(seen: &Seen, args: &[&[u8]]) -> Result<Word, LineRefused>
     ensures { Reads (λ word. word) result (point_of seen.now (map (λ arg. arg.now) args.now)) }
 {
     let (pointer, name) = two(args)?;
-    of_run(seen, is_name(pointer) && is_name(name))
+    of_other_kind(seen, is_name(pointer) && is_name(name))
 }
 
 /// `drop PTR`, `link PTR` and `unlink PTR`
 pub(crate) fn link_of(seen: &Seen, args: &[&[u8]]) -> Result<Word, LineRefused>
     ensures { Reads (λ word. word) result (link_of seen.now (map (λ arg. arg.now) args.now)) }
 {
-    of_run(seen, is_name(one(args)?))
+    of_other_kind(seen, is_name(one(args)?))
 }
 
 /// `step PTR N`
@@ -65,7 +65,7 @@ pub(crate) fn step_of(seen: &Seen, args: &[&[u8]]) -> Result<Word, LineRefused>
     ensures { Reads (λ word. word) result (step_of seen.now (map (λ arg. arg.now) args.now)) }
 {
     let (pointer, bytes) = two(args)?;
-    of_run(seen, is_name(pointer) && is_signed(bytes))
+    of_other_kind(seen, is_name(pointer) && is_signed(bytes))
 }
 
 /// `sread PTR N`
@@ -73,7 +73,7 @@ pub(crate) fn sread_of(seen: &Seen, args: &[&[u8]]) -> Result<Word, LineRefused>
     ensures { Reads (λ word. word) result (sread_of seen.now (map (λ arg. arg.now) args.now)) }
 {
     let (pointer, len) = two(args)?;
-    of_run(seen, is_name(pointer) && is_numeral(len))
+    of_other_kind(seen, is_name(pointer) && is_numeral(len))
 }
 
 /// `swrite PTR HEX`
@@ -82,7 +82,7 @@ pub(crate) fn swrite_of(alloc: Global, seen: &Seen, args: &[&[u8]]) -> Result<Wo
 {
     let (pointer, hex) = two(args)?;
     let hex = is_hex(alloc, hex)?;
-    of_run(seen, is_name(pointer) && hex)
+    of_other_kind(seen, is_name(pointer) && hex)
 }
 
 /// `balloon ENCLAVE TO`
@@ -90,7 +90,7 @@ pub(crate) fn balloon_of(seen: &Seen, args: &[&[u8]]) -> Result<Word, LineRefuse
     ensures { Reads (λ word. word) result (balloon_of seen.now (map (λ arg. arg.now) args.now)) }
 {
     let (enclave, to) = two(args)?;
-    of_run(seen, is_numeral(enclave) && is_numeral(to))
+    of_other_kind(seen, is_numeral(enclave) && is_numeral(to))
 }
 
 /// `call WORD HEX ROOM`
@@ -99,5 +99,5 @@ pub(crate) fn call_of(alloc: Global, seen: &Seen, args: &[&[u8]]) -> Result<Word
 {
     let (call, hex, room) = three(args)?;
     let hex = is_hex(alloc, hex)?;
-    of_run(seen, is_call(call) && hex && is_numeral(room))
+    of_other_kind(seen, is_call(call) && hex && is_numeral(room))
 }

@@ -5,10 +5,10 @@ use std::test::*;
 
 mod commands;
 mod headers;
+mod runs;
 
-/// The header, lines 1 to 13, of a machine with two enclaves, of 4 and 2 pages, 4 frames and three callers.
-const HEADER: &str = "eleos 1 replay
-enclave 0 pages 4 frames 2
+/// The lines 2 to 13 of a header: a machine with two enclaves, of 4 and 2 pages, 4 frames and three callers.
+const MACHINE: &str = "enclave 0 pages 4 frames 2
 enclave 1 pages 2 frames 1
 spare 1
 caller 1 enclave 0
@@ -22,11 +22,21 @@ block top enclave 1 bytes 2048 owner 2
 start
 ";
 
+/// A text of this kind with these commands behind its header.
+fn text_of(alloc: Global, kind: Kind, commands: &str) -> Result<String, Fail> {
+    let kind = match kind {
+        Kind::Run => "run",
+        Kind::Replay => "replay",
+    };
+    Ok(format!(in alloc; "eleos 1 {kind}\n{MACHINE}{commands}")?)
+}
+
 #[test]
 fn reads_a_header(rt: HostRuntime) -> Result<(), Fail> {
     let alloc = rt.alloc();
-    let text = format!(in alloc; "{HEADER}end\n")?;
-    let trace = parse(alloc, text.as_bytes())?;
+    let text = text_of(alloc, Kind::Replay, "end\n")?;
+    let trace = parse(alloc, Kind::Replay, text.as_bytes())?;
+    assert_eq!(rt; trace.kind, Kind::Replay);
     let enclaves = [
         EnclavePlan {
             pages: 4,
@@ -69,15 +79,14 @@ fn refuses_a_large_text(rt: HostRuntime) -> Result<(), Fail> {
         line: 0,
         why: Why::TooLarge,
     };
-    assert!(rt; is_refused(alloc, &large, bad));
+    assert!(rt; is_refused(alloc, Kind::Replay, &large, bad));
     Ok(())
 }
 
 #[test]
 fn refuses_one_command_more(rt: HostRuntime) -> Result<(), Fail> {
     let alloc = rt.alloc();
-    let mut text = String::new(alloc);
-    text.push_str(HEADER)?;
+    let mut text = text_of(alloc, Kind::Replay, "")?;
     for i in 0..100_001u32 {
         text.push_str(&format!(in alloc; "c1 alloc a{i} 1\n")?)?;
     }
@@ -86,12 +95,12 @@ fn refuses_one_command_more(rt: HostRuntime) -> Result<(), Fail> {
         line: 100_014,
         why: Why::Many,
     };
-    assert!(rt; is_refused(alloc, text.as_bytes(), bad));
+    assert!(rt; is_refused(alloc, Kind::Replay, text.as_bytes(), bad));
     Ok(())
 }
 
-fn is_refused(alloc: Global, text: &[u8], bad: TraceRefused) -> bool {
-    match parse(alloc, text) {
+fn is_refused(alloc: Global, kind: Kind, text: &[u8], bad: TraceRefused) -> bool {
+    match parse(alloc, kind, text) {
         Ok(_) => false,
         Err(refused) => refused == bad,
     }

@@ -3,6 +3,8 @@ ghost use Rattle.std.specs.Prelude.{◌≡◌, List, ℕ, map};
 ghost use Rattle.eleos_base.specs.Plans.{IsGood};
 ghost use Rattle.eleos_trace.specs.Verbs.{is_link, line_of, command_of};
 ghost use Rattle.eleos_trace.specs.Verbs.{frame_command_of, host_command_of, run_command_of};
+ghost use Rattle.eleos_trace.specs.Verbs.{planned_command_of, planned_frame_command_of};
+ghost use Rattle.eleos_trace.specs.Verbs.{replay_command_of, other_command_of};
 ghost use Rattle.eleos_trace.specs.Reasons.{Reads};
 
 use crate::actors::actor_of;
@@ -15,7 +17,7 @@ use crate::run_forms::{balloon_of, call_of, link_of, point_of, sread_of, step_of
 use crate::seen::Seen;
 use crate::ties::{tie_of, untie_of};
 use crate::why::{LineRefused, refused};
-use crate::{Actor, Line, Why, Word};
+use crate::{Actor, Kind, Line, Why, Word, planned, replay_forms};
 use std::alloc::Global;
 
 /// A line by its words.
@@ -60,7 +62,99 @@ fn command_of(
     } else if verb == b"write".as_slice() {
         write_of(alloc, header, seen, actor, args)
     } else {
-        frame_command_of(alloc, header, seen, actor, verb, args)
+        other_command_of(alloc, header, seen, actor, verb, args)
+    }
+}
+
+/// A command by a verb that is not one of a caller on its memory.
+fn other_command_of(
+    alloc: Global,
+    header: &Header,
+    seen: &Seen,
+    actor: Actor,
+    verb: &[u8],
+    args: &[&[u8]],
+) -> Result<Word, LineRefused>
+    requires { IsGood header.now.plan }
+    ensures { Reads (λ word. word) result
+        (other_command_of header.now seen.now actor verb.now (map (λ arg. arg.now) args.now)
+        header.now.kind) }
+{
+    match header.kind {
+        Kind::Run => planned_command_of(alloc, header, seen, actor, verb, args),
+        Kind::Replay => frame_command_of(alloc, header, seen, actor, verb, args),
+    }
+}
+
+fn planned_command_of(
+    alloc: Global,
+    header: &Header,
+    seen: &Seen,
+    actor: Actor,
+    verb: &[u8],
+    args: &[&[u8]],
+) -> Result<Word, LineRefused>
+    requires { IsGood header.now.plan }
+    ensures { Reads (λ word. word) result
+        (planned_command_of header.now seen.now actor verb.now (map (λ arg. arg.now) args.now)) }
+{
+    if verb == b"point".as_slice() {
+        planned::point_of(header, seen, actor, args)
+    } else if verb == b"copy".as_slice() {
+        planned::copy_of(header, seen, actor, args)
+    } else if is_link(verb) {
+        planned::link_of(header, seen, actor, args)
+    } else if verb == b"step".as_slice() {
+        planned::step_of(header, seen, actor, args)
+    } else if verb == b"sread".as_slice() {
+        planned::sread_of(header, seen, actor, args)
+    } else if verb == b"swrite".as_slice() {
+        planned::swrite_of(alloc, header, seen, actor, args)
+    } else {
+        planned_frame_command_of(alloc, header, seen, actor, verb, args)
+    }
+}
+
+fn planned_frame_command_of(
+    alloc: Global,
+    header: &Header,
+    seen: &Seen,
+    actor: Actor,
+    verb: &[u8],
+    args: &[&[u8]],
+) -> Result<Word, LineRefused>
+    requires { IsGood header.now.plan }
+    ensures { Reads (λ word. word) result
+        (planned_frame_command_of header.now seen.now actor verb.now
+        (map (λ arg. arg.now) args.now)) }
+{
+    if verb == b"flip".as_slice() {
+        planned::flip_of(header, seen, actor, args)
+    } else if verb == b"swap".as_slice() {
+        planned::swap_of(header, seen, actor, args)
+    } else if verb == b"keep".as_slice() || verb == b"restore".as_slice() {
+        planned::keep_of(header, seen, actor, args)
+    } else if verb == b"balloon".as_slice() {
+        planned::balloon_of(header, seen, actor, args)
+    } else if verb == b"call".as_slice() {
+        planned::call_of(alloc, header, seen, actor, args)
+    } else {
+        replay_command_of(seen, verb, args)
+    }
+}
+
+fn replay_command_of(seen: &Seen, verb: &[u8], args: &[&[u8]]) -> Result<Word, LineRefused>
+    ensures { Reads (λ word. word) result
+        (replay_command_of seen.now verb.now (map (λ arg. arg.now) args.now)) }
+{
+    if verb == b"tie".as_slice() || verb == b"untie".as_slice() {
+        replay_forms::tie_of(seen, args)
+    } else if verb == b"fill".as_slice() || verb == b"evict".as_slice() {
+        replay_forms::fill_of(seen, args)
+    } else if verb == b"move".as_slice() {
+        replay_forms::move_of(seen, args)
+    } else {
+        refused(Why::Form)
     }
 }
 

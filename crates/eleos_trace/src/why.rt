@@ -20,13 +20,13 @@ pub enum Why {
     Form,
     /// The command is one too many.
     Many,
-    /// The actor is not declared, or may not give this command.
+    /// The actor is not declared, or may not give this command in this kind.
     Actor,
     /// A number, a sum over the machine, the number of blocks, a key or the bytes of a write are outside their limits, or a page, frame or place is not in the machine.
     Range,
-    /// The name is not bound, or is bound already; or a block of the enclave has it.
+    /// The name or pointer is not bound, or is bound already; or a block of the enclave has it.
     Name,
-    /// An enclave is not declared.
+    /// An enclave is not declared, or is not the caller's.
     Enclave,
     /// The size of a header block is not 1 to 65,536.
     BadSize,
@@ -34,7 +34,7 @@ pub enum Why {
     NoSpace,
     /// The owner of a header block is neither 0 nor a caller of its enclave.
     Owner,
-    /// The form is not read yet; every form of kind replay is.
+    /// The command is not built yet; every command of kind replay is.
     Later,
 }
 

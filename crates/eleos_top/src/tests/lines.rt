@@ -1,6 +1,6 @@
 // The lines of a log, and what commands mean.
 ghost use Rattle.std.specs.Prelude.{IfOk};
-ghost use Rattle.eleos_trace.specs.Replays.{IsReplay};
+ghost use Rattle.eleos_trace.specs.Kinds.{IsReplay};
 
 use crate::answer::Answer;
 use crate::headers::opening_places;
@@ -10,7 +10,7 @@ use crate::said::push_said;
 use eleos_base::{Addr, Part, Reply};
 use eleos_core::Event;
 use eleos_host::Act;
-use eleos_trace::{Trace, parse};
+use eleos_trace::{Kind, Trace, parse};
 use std::alloc::Global;
 use std::test::Fail;
 
@@ -48,7 +48,7 @@ fn trace_of(alloc: Global, commands: &[&str]) -> Result<Trace, Fail>
         text.extend_from_slice(b"\n")?;
     }
     text.extend_from_slice(b"end\n")?;
-    match parse(alloc, &text) {
+    match parse(alloc, Kind::Replay, &text) {
         Ok(trace) => Ok(trace),
         Err(_) => Err(Fail::from("no trace")),
     }

@@ -7,23 +7,23 @@ ghost use Rattle.eleos_trace.specs.Machines.{frames_of};
 ghost use Rattle.eleos_trace.specs.Reasons.{Reads};
 
 use super::homes::MOST_FRAMES;
-use crate::Why;
 use crate::counts::{one, three, two};
 use crate::fields::{hex_bytes, is_numeral, number_up_to};
 use crate::machines::frames_of;
 use crate::why::{LineRefused, refused};
+use crate::{Kind, Why};
 use eleos_base::{Bytes, EnclavePlan};
 use std::alloc::Global;
 
 /// How often a sub-page may be sealed.
 const MOST_WEAR: u64 = 1 << 63;
 
-/// `eleos 1 replay`
-pub(crate) fn title_line(words: &[&[u8]]) -> Result<(), LineRefused>
-    ensures { Reads (λ x. x) result (title_line (map (λ word. word.now) words.now)) }
+/// `eleos 1 run` or `eleos 1 replay`, by the kind that is asked for.
+pub(crate) fn title_line(kind: Kind, words: &[&[u8]]) -> Result<(), LineRefused>
+    ensures { Reads (λ x. x) result (title_line kind (map (λ word. word.now) words.now)) }
 {
-    let (first, version, kind) = three(words)?;
-    if first != b"eleos".as_slice() || version != b"1".as_slice() || kind != b"replay".as_slice() {
+    let (first, version, word) = three(words)?;
+    if first != b"eleos".as_slice() || version != b"1".as_slice() || word != kind.word() {
         return refused(Why::Form);
     }
     Ok(())

@@ -14,7 +14,7 @@ use super::homes::{callers_of, enclaves_of};
 use super::lines::{key_line, spare_line, start_line, title_line, wear_line};
 use crate::splits::{first_line, words_of};
 use crate::why::at_line;
-use crate::{TraceRefused, Why};
+use crate::{Kind, TraceRefused, Why};
 use eleos_base::{List, Plan};
 use std::alloc::Global;
 
@@ -38,16 +38,16 @@ pub(crate) fn next_words<'a>(
     Ok((words_of(alloc, front)?, rest))
 }
 
-/// The machine of a text without its blocks, and the text behind the lines that say it.
+/// The machine of a text of this kind without its blocks, and the text behind the lines that say it.
 #[tactic(auto, unfolding(crate::specs::WholeHeader::machine_of))]
-fn machine_of(alloc: Global, text: &[u8]) -> Result<(Plan, &[u8]), TraceRefused>
+fn machine_of(alloc: Global, kind: Kind, text: &[u8]) -> Result<(Plan, &[u8]), TraceRefused>
     ensures given { Gives (λ x. (x.0, slice_split is_newline x.1.now)) result
-        (machine_of (slice_split is_newline text.now)) }
+        (machine_of kind (slice_split is_newline text.now)) }
     ensures good { IfOk result (λ x. IsGood x.0) }
     ensures shorter { IfOk result (λ x. length x.1.now ≤ length text.now) }
 {
     let (words, text) = next_words(alloc, 1, text)?;
-    at_line(1, title_line(&words))?;
+    at_line(1, title_line(kind, &words))?;
     let (enclaves, text) = enclaves_of(alloc, 2, text)?;
     let line = enclaves.len() as u32;
     let (words, text) = next_words(alloc, line + 2, text)?;
@@ -74,15 +74,20 @@ fn machine_lines(plan: &Plan) -> u32
     plan.enclaves.len() as u32 + plan.callers.len() as u32 + 3
 }
 
-/// The header of a text, and the text behind it.
+/// The header of a text of this kind, and the text behind it.
 #[tactic(auto, unfolding(crate::specs::WholeHeader::header_of))]
-pub(crate) fn header_of(alloc: Global, text: &[u8]) -> Result<(Header, &[u8]), TraceRefused>
+pub(crate) fn header_of(
+    alloc: Global,
+    kind: Kind,
+    text: &[u8],
+) -> Result<(Header, &[u8]), TraceRefused>
     ensures given { Gives (λ x. (x.0, slice_split is_newline x.1.now)) result
-        (header_of (slice_split is_newline text.now)) }
+        (header_of kind (slice_split is_newline text.now)) }
+    ensures kind { IfOk result (λ x. x.0.kind ≡ kind) }
     ensures good { IfOk result (λ x. IsGoodHeader x.0) }
     ensures shorter { IfOk result (λ x. length x.1.now ≤ length text.now) }
 {
-    let (plan, text) = machine_of(alloc, text)?;
+    let (plan, text) = machine_of(alloc, kind, text)?;
     let line = machine_lines(&plan);
     let (words, text) = next_words(alloc, line + 1, text)?;
     let key = at_line(line + 1, key_line(alloc, &words))?;
@@ -91,7 +96,15 @@ pub(crate) fn header_of(alloc: Global, text: &[u8]) -> Result<(Header, &[u8]), T
     let (words, text) = next_words(alloc, line, text)?;
     at_line(line, start_line(&words))?;
     let blocks = List::of(blocks);
-    Ok((Header { plan, key, blocks }, text))
+    Ok((
+        Header {
+            kind,
+            plan,
+            key,
+            blocks,
+        },
+        text,
+    ))
 }
 
 /// The lines of a header.

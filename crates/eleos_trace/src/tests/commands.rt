@@ -1,7 +1,7 @@
 // Commands: those that are read, and those that are refused, with the first bad line and its first reason.
 
-use super::{HEADER, is_refused};
-use crate::{TraceRefused, Why, Word, parse};
+use super::{is_refused, text_of};
+use crate::{Kind, TraceRefused, Why, Word, parse};
 use std::alloc::Global;
 use std::test::*;
 
@@ -51,14 +51,14 @@ const GOOD: [(&str, &str); 21] = [
 #[test]
 fn reads_each_command(rt: HostRuntime) -> Result<(), Fail> {
     let alloc = rt.alloc();
-    let mut text = String::from_str(alloc, HEADER)?;
+    let mut text = text_of(alloc, Kind::Replay, "")?;
     let mut wanted = String::new(alloc);
     for (command, shown) in GOOD {
         text.push_str(command)?;
         wanted.push_str(shown)?;
     }
     text.push_str("end\n")?;
-    let trace = parse(alloc, text.as_bytes())?;
+    let trace = parse(alloc, Kind::Replay, text.as_bytes())?;
     let mut found = String::new(alloc);
     for line in trace.lines.as_slice() {
         let actor = line.actor;
@@ -69,7 +69,7 @@ fn reads_each_command(rt: HostRuntime) -> Result<(), Fail> {
     Ok(())
 }
 
-fn shown(alloc: Global, word: &Word) -> Result<String, Fail> {
+pub(crate) fn shown(alloc: Global, word: &Word) -> Result<String, Fail> {
     Ok(match word {
         Word::Alloc { name, bytes } => { format!(in alloc; "alloc {:?} {bytes}", name.as_slice())? }
         Word::Free { name } => format!(in alloc; "free {:?}", name.as_slice())?,
@@ -162,9 +162,12 @@ const BAD: [(&str, u32, Why); 61] = [
 fn refuses_commands(rt: HostRuntime) -> Result<(), Fail> {
     let alloc = rt.alloc();
     for (commands, line, why) in BAD {
-        let text = format!(in alloc; "{HEADER}{commands}")?;
+        let text = text_of(alloc, Kind::Replay, commands)?;
         let bad = TraceRefused::Bad { line, why };
-        assert!(rt; is_refused(alloc, text.as_bytes(), bad), "{commands}");
+        assert!(rt;
+            is_refused(alloc, Kind::Replay, text.as_bytes(), bad),
+            "{commands}"
+        );
     }
     Ok(())
 }

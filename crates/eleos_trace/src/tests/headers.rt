@@ -1,7 +1,7 @@
 // Headers: those whose lines reach a limit, and those that are refused, with the first bad line and its first reason.
 
 use super::is_refused;
-use crate::{TraceRefused, Why, parse};
+use crate::{Kind, TraceRefused, Why, parse};
 use std::alloc::Global;
 use std::test::*;
 
@@ -123,7 +123,10 @@ fn refuses_headers(rt: HostRuntime) -> Result<(), Fail> {
         }
         text.push_str(bad_lines)?;
         let bad = TraceRefused::Bad { line, why };
-        assert!(rt; is_refused(alloc, text.as_bytes(), bad), "{bad_lines}");
+        assert!(rt;
+            is_refused(alloc, Kind::Replay, text.as_bytes(), bad),
+            "{bad_lines}"
+        );
     }
     Ok(())
 }
@@ -188,7 +191,7 @@ fn reads_headers_at_their_limits(rt: HostRuntime) -> Result<(), Fail> {
     ];
     for sizes in &limits {
         let text = text_of(alloc, sizes)?;
-        let trace = parse(alloc, text.as_bytes())?;
+        let trace = parse(alloc, Kind::Replay, text.as_bytes())?;
         let plan = trace.plan;
         assert_eq!(rt; plan.enclaves.len(), sizes.enclaves as usize);
         assert_eq!(rt; plan.callers.len(), sizes.callers as usize);
@@ -216,7 +219,7 @@ fn refuses_headers_past_their_limits(rt: HostRuntime) -> Result<(), Fail> {
             why: *why,
         };
         assert!(rt;
-            is_refused(alloc, text.as_bytes(), bad),
+            is_refused(alloc, Kind::Replay, text.as_bytes(), bad),
             "{why:?} at {line}"
         );
     }

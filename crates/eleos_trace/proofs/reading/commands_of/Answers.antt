@@ -2,7 +2,7 @@ use Rattle.std.proofs.Common.{sym, ◌∙◌, arith}
 use Rattle.std.proofs.lemmas.Result.{err_from_is_err_and}
 use Rattle.std.proofs.lemmas.List.{length_push}
 use Rattle.eleos_trace.specs.WholeHeader.{plan_of}
-use Rattle.eleos_trace.specs.Replays.{MayGive}
+use Rattle.eleos_trace.specs.Kinds.{MayGiveIn}
 use Rattle.eleos_trace.proofs.Chosen.{line_ok}
 use Rattle.eleos_trace.proofs.Good.{All-push}
 use Rattle.eleos_trace.proofs.Items.{read_ok}
@@ -36,7 +36,7 @@ loop-front-preserved c =
       line = omega arith;
       room = omega (arith, may.room);
       count = rw (length_push c.loop-front.lines.items c.in_ok-command.command) (omega arith);
-      given = All-push (λ line. MayGive (plan_of c.args.header.now) line.actor line.command) c.loop-front.lines.items c.in_ok-command.command c.loop-front.invariant.given may.may;
+      given = All-push (λ line. MayGiveIn c.args.header.now.kind (plan_of c.args.header.now) line.actor line.command) c.loop-front.lines.items c.in_ok-command.command c.loop-front.invariant.given may.may;
       whole = at_command c.args.header.now c.loop-front.line c.loop-front.seen c.loop-front.lines.items c.loop-front.rest.now _ c.loop-front.invariant.whole
           c.in-Some.front.now c.in-Some.after.now c.in-Some.ensures.parts c.in_ok-command.command (sym c.is_end.ensures ∙ c.if-is_end.false) is;
     })

@@ -4,7 +4,7 @@ use Rattle.std.specs.List.{slice_split}
 use Rattle.eleos_trace.specs.Fields.{is_newline}
 use Rattle.eleos_trace.specs.WholeHeader.{header_lines, plan_of}
 use Rattle.eleos_trace.specs.Reading.{commands_of}
-use Rattle.eleos_trace.specs.Replays.{MayGive}
+use Rattle.eleos_trace.specs.Kinds.{MayGiveIn}
 use Rattle.eleos_trace.specs.Seen.{nothing_seen}
 use Rattle.eleos_trace.proofs.Steps.{with_front}
 use Rattle.eleos_trace.proofs.reading.commands_of.Given as goal
@@ -15,7 +15,7 @@ invariant-loop-front l = record {
   line : l.line + length l.rest ≤ length l.text + 1000;
   room : l.seen.commands ≤ 100000;
   count : length l.lines.items ≡ l.seen.commands;
-  given : All (λ line. MayGive (plan_of l.header) line.actor line.command) l.lines.items;
+  given : All (λ line. MayGiveIn l.header.kind (plan_of l.header) line.actor line.command) l.lines.items;
   whole : with_front l.lines.items (commands_of l.header l.line l.seen (slice_split is_newline l.rest)) ≡ commands_of l.header (header_lines l.header + 1) (nothing_seen l.header) (slice_split is_newline l.text);
 }
 

@@ -1,0 +1,50 @@
+-- What every trace of a kind keeps to.
+use Rattle.std.specs.Prelude.{◌≡◌, ◌≤◌, List, length, All}
+use Rattle.eleos_base.specs.declared.plan.Plan.{Plan}
+use Rattle.eleos_base.specs.AesKey.{IsKeyLength}
+use Rattle.eleos_base.specs.Plans.{IsGood}
+use Rattle.eleos_trace.specs.declared.word.Actor as actors
+use Rattle.eleos_trace.specs.declared.word.Word.{Word}
+use Rattle.eleos_trace.specs.declared.word.Word.TheVariants.{Alloc, Free, Share, Read, Write}
+use Rattle.eleos_trace.specs.declared.trace.Kind.{Kind}
+use Rattle.eleos_trace.specs.declared.trace.Kind.TheVariants.{Run, Replay}
+use Rattle.eleos_trace.specs.declared.trace.Line.{Line}
+use Rattle.eleos_trace.specs.declared.trace.Trace.{Trace}
+use Rattle.eleos_trace.specs.Blocks.{EachFindsRoom}
+use Rattle.eleos_trace.specs.Replays.{IsCallerOf, MayGive}
+
+-- a command of a run is one of these five, and a caller of the plan gives it
+abbrev pub MayRun : Plan → actors.Actor → Word → Type 0
+MayRun plan who (Alloc name bytes) = IsCallerOf plan who
+MayRun plan who (Free name) = IsCallerOf plan who
+MayRun plan who (Share name) = IsCallerOf plan who
+MayRun plan who (Read name offset len) = IsCallerOf plan who
+MayRun plan who (Write name offset bytes) = IsCallerOf plan who × (length bytes ≤ 2048)
+MayRun plan who _ = ⊥
+
+-- the actor may give the command in a trace of this kind
+abbrev pub MayGiveIn : Kind → Plan → actors.Actor → Word → Type 0
+MayGiveIn Run = MayRun
+MayGiveIn Replay = MayGive
+
+-- not too many commands, each by an actor that may give it
+pub record AreGiven (kind : Kind) (plan : Plan) (lines : List Line) : Type 0 where
+  pub each : All (λ line. MayGiveIn kind plan line.actor line.command) lines
+  pub few : length lines ≤ 100000
+
+-- a good plan with room for its header blocks, a key of a good length, a name for each block, and commands that the actors may give
+pub record IsTrace (kind : Kind) (trace : Trace) : Type 0 where
+  pub kind_is : trace.kind ≡ kind
+  pub good : IsGood trace.plan
+  pub room : EachFindsRoom trace.plan
+  pub key : IsKeyLength (length trace.key)
+  pub names : length trace.names ≡ length trace.plan.blocks
+  pub lines : AreGiven kind trace.plan trace.lines
+
+-- a trace of kind run
+abbrev pub IsRun : Trace → Type 0
+IsRun = IsTrace Run
+
+-- a trace of kind replay
+abbrev pub IsReplay : Trace → Type 0
+IsReplay = IsTrace Replay
