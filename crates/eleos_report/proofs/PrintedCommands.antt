@@ -1,0 +1,44 @@
+-- A command that is printed is read again.
+use Rattle.std.proofs.Common.{◌≡◌, ℕ, List, [], ◌∷◌, Ok, true, refl}
+use Rattle.std.specs.Fmt.{decimal}
+use Rattle.eleos_trace.specs.declared.word.Word.{Word}
+use Rattle.eleos_trace.specs.declared.word.Word.TheVariants.{Alloc, Free, Share, Read, Write, Tie, Untie, Fill, Evict, Move, Flip, SwapPlaces, Keep, Restore}
+use Rattle.eleos_trace.specs.Reasons.{one, two, three, one_and_more}
+use Rattle.eleos_trace.specs.Spelling.{fields}
+use Rattle.eleos_trace.specs.declared.trace.Kind.{Kind}
+use Rattle.eleos_report.specs.Commands.{name_alone, name_and_number, number_alone, two_numbers, command_in, is_command}
+use Rattle.eleos_report.specs.Grammar.{IsShort, IsName, HasFields}
+use Rattle.eleos_report.proofs.PrintedFields.{short_again, name_again, bytes_again, owner_again}
+
+name_alone-again : (name : List ℕ) → IsName name → name_alone (name ∷ []) ≡ Ok name
+unfolding one
+name_alone-again name is = name_again name is
+
+name_and_number-again : (name : List ℕ) (n : ℕ) → IsName name → IsShort n → name_and_number (name ∷ decimal n ∷ []) ≡ Ok (name, n)
+unfolding two
+name_and_number-again name n is fits = rw (name_again name is, short_again n fits) refl
+
+pub number_alone-again : (n : ℕ) → IsShort n → number_alone (decimal n ∷ []) ≡ Ok n
+unfolding one
+number_alone-again n fits = short_again n fits
+
+two_numbers-again : (a b : ℕ) → IsShort a → IsShort b → two_numbers (decimal a ∷ decimal b ∷ []) ≡ Ok (a, b)
+unfolding two
+two_numbers-again a b fits_a fits_b = rw (short_again a fits_a, short_again b fits_b) refl
+
+pub command_again : (kind : Kind) (command : Word) → is_command kind command ≡ true → HasFields command → command_in kind (fields command) ≡ Ok command
+unfolding one_and_more three
+command_again kind (Alloc name bytes) is has = rw (name_and_number-again name bytes has.0 has.1, is) refl
+command_again kind (Free name) is has = rw (name_alone-again name has, is) refl
+command_again kind (Share name) is has = rw (name_alone-again name has, is) refl
+command_again kind (Read name offset len) is has = rw (name_again name has.0, short_again offset has.1, short_again len has.2, is) refl
+command_again kind (Write name offset bytes) is has = rw (name_again name has.0, short_again offset has.1, bytes_again bytes has.2, is) refl
+command_again kind (Tie name offset) is has = rw (name_and_number-again name offset has.0 has.1, is) refl
+command_again kind (Untie name offset) is has = rw (name_and_number-again name offset has.0 has.1, is) refl
+command_again kind (Fill page frame) is has = rw (two_numbers-again page frame has.0 has.1, is) refl
+command_again kind (Evict page frame) is has = rw (two_numbers-again page frame has.0 has.1, is) refl
+command_again kind (Move frame from to) is has = rw (short_again frame has.0, owner_again from has.1, owner_again to has.2, has.3, is) refl
+command_again kind (Flip place bit) is has = rw (two_numbers-again place bit has.0 has.1, is) refl
+command_again kind (SwapPlaces a b) is has = rw (two_numbers-again a b has.0 has.1, is) refl
+command_again kind (Keep place) is has = rw (number_alone-again place has, is) refl
+command_again kind (Restore place) is has = rw (number_alone-again place has, is) refl

@@ -1,0 +1,34 @@
+// The replies of a log.
+
+use eleos_base::{Bytes, List, Looked, Part};
+
+/// The bytes of a sub-page as they came from the host.
+pub type Block = Bytes;
+
+/// What stands behind a command. Sub-pages are numbered over the whole machine.
+#[derive(Debug, Drop)]
+pub enum Answer {
+    /// The offset in bytes at which a block begins.
+    At { at: u32 },
+    Okay,
+    Got { bytes: Bytes },
+    /// How many blocks were put at the host.
+    Put { count: u32 },
+    BadSize,
+    NoSpace,
+    NotABlock,
+    NotYours { owner: u32 },
+    BadRange,
+    Unallocated,
+    Worn { sub: u32 },
+    /// A run tells the block that did not pass, a replay does not.
+    Tampered { sub: u32, block: Option<Block> },
+    /// Each frame that was looked at, with the word that was seen there.
+    NoFrame { sweep: List<Looked> },
+    /// What the command offends against.
+    Illegal { part: Part },
+    /// The host had nothing of that place to restore.
+    Nothing,
+    /// The command's name is not bound.
+    Skipped,
+}

@@ -1,0 +1,158 @@
+// The printed spelling of replies and of whole lines.
+ghost use Rattle.std.specs.Prelude.{◌≡◌, ◌++◌, ◌∷◌, IfOk, OnOk, map};
+ghost use Rattle.std.specs.String.{string_bytes};
+ghost use Rattle.eleos_trace.specs.declared.trace.Kind.{Kind};
+ghost use Rattle.eleos_report.specs.Grammar.{IsLine};
+ghost use Rattle.std.specs.List.{join_with_byte};
+ghost use Rattle.eleos_trace.specs.Spelling.{actor_text, fields};
+ghost use Rattle.eleos_report.specs.Log.{answer_fields, line_text, looked_text, part_text};
+ghost use Rattle.eleos_report.specs.Log.{block_fields, line_fields, spaced, stamp_text};
+
+use crate::text::{
+    push, push_field, push_hex_field, push_number, push_number_field, push_numbered,
+};
+use crate::words::{push_actor, push_command};
+use crate::{Answer, Block, LogLine};
+use eleos_base::{Looked, NoMemory, Part};
+use eleos_trace::{Actor, Word};
+use std::alloc::Global;
+
+/// A line with its newline. Bytes of a name that are no text are printed as U+FFFD.
+pub fn write_line(alloc: Global, line: &LogLine) -> Result<String, NoMemory>
+    ensures { (kind : Kind) → IsLine kind line.now
+        → IfOk result (λ text. string_bytes text ≡ line_text line.now) }
+{
+    let mut out = Vec::new(alloc);
+    push_line(alloc, &mut out, line)?;
+    Ok(String::from_utf8_lossy(alloc, &out)?)
+}
+
+/// Adds a line with its newline.
+pub fn push_line(alloc: Global, out: &mut Vec<u8>, line: &LogLine) -> Result<(), NoMemory>
+    ensures { OnOk result (out.new.items ≡ out.old.items ++ line_text line.now) }
+{
+    push_words(alloc, out, line)?;
+    push(out, b"\n")
+}
+
+/// The words of a line, with single blanks between.
+fn push_words(alloc: Global, out: &mut Vec<u8>, line: &LogLine) -> Result<(), NoMemory>
+    ensures { OnOk result (out.new.items
+        ≡ out.old.items ++ join_with_byte 32 (line_fields line.now)) }
+{
+    match line {
+        LogLine::Said {
+            stamp,
+            actor,
+            command,
+            reply,
+        } => {
+            push_command_line(alloc, out, *stamp, *actor, command)?;
+            push(out, b" =")?;
+            push_answer(alloc, out, reply)
+        }
+        LogLine::End { count } => {
+            push(out, b"end ")?;
+            push_number(alloc, out, *count)
+        }
+    }
+}
+
+/// A stamp, an actor and a command.
+fn push_command_line(
+    alloc: Global,
+    out: &mut Vec<u8>,
+    stamp: Option<u64>,
+    actor: Actor,
+    command: &Word,
+) -> Result<(), NoMemory>
+    ensures { OnOk result (out.new.items ≡ out.old.items
+        ++ (stamp_text stamp ++ 32 ∷ actor_text actor ++ spaced (fields command.now))) }
+{
+    push_stamp(alloc, out, stamp)?;
+    push(out, b" ")?;
+    push_actor(alloc, out, actor)?;
+    push_command(alloc, out, command)
+}
+
+fn push_stamp(alloc: Global, out: &mut Vec<u8>, stamp: Option<u64>) -> Result<(), NoMemory>
+    ensures { OnOk result (out.new.items ≡ out.old.items ++ stamp_text stamp) }
+{
+    match stamp {
+        Some(stamp) => push_number(alloc, out, stamp),
+        None => push(out, b"-"),
+    }
+}
+
+/// A reply word by word, with a blank before each.
+fn push_answer(alloc: Global, out: &mut Vec<u8>, answer: &Answer) -> Result<(), NoMemory>
+    ensures { OnOk result (out.new.items ≡ out.old.items ++ spaced (answer_fields answer.now)) }
+{
+    match answer {
+        Answer::At { at } => push_numbered(alloc, out, b"at", *at),
+        Answer::Okay => push(out, b" ok"),
+        Answer::Got { bytes } => {
+            push(out, b" got")?;
+            push_hex_field(alloc, out, bytes.as_slice())
+        }
+        Answer::Put { count } => push_numbered(alloc, out, b"put", *count),
+        Answer::BadSize => push(out, b" badsize"),
+        Answer::NoSpace => push(out, b" nospace"),
+        Answer::NotABlock => push(out, b" notablock"),
+        Answer::NotYours { owner } => push_numbered(alloc, out, b"notyours", *owner),
+        Answer::BadRange => push(out, b" badrange"),
+        Answer::Unallocated => push(out, b" unallocated"),
+        Answer::Worn { sub } => push_numbered(alloc, out, b"worn", *sub),
+        Answer::Tampered { sub, block } => {
+            push_numbered(alloc, out, b"tampered", *sub)?;
+            push_block(alloc, out, block)
+        }
+        Answer::NoFrame { sweep } => {
+            push(out, b" noframe")?;
+            push_sweep(alloc, out, sweep.as_slice())
+        }
+        Answer::Illegal { part } => {
+            push(out, b" illegal")?;
+            push_field(out, part_word(*part))
+        }
+        Answer::Nothing => push(out, b" none"),
+        Answer::Skipped => push(out, b" skipped"),
+    }
+}
+
+/// The block that did not pass, where it is told.
+fn push_block(alloc: Global, out: &mut Vec<u8>, block: &Option<Block>) -> Result<(), NoMemory>
+    ensures { OnOk result (out.new.items ≡ out.old.items ++ spaced (block_fields block.now)) }
+{
+    match block {
+        Some(block) => push_hex_field(alloc, out, block.as_slice()),
+        None => Ok(()),
+    }
+}
+
+/// Each frame with its word.
+fn push_sweep(alloc: Global, out: &mut Vec<u8>, sweep: &[Looked]) -> Result<(), NoMemory>
+    ensures { OnOk result (out.new.items
+        ≡ out.old.items ++ spaced (map looked_text sweep.now)) }
+{
+    for looked in sweep {
+        push_number_field(alloc, out, looked.frame)?;
+        push(out, b":")?;
+        push_number(alloc, out, looked.word)?;
+    }
+    Ok(())
+}
+
+/// What is offended against.
+fn part_word(part: Part) -> &'static [u8]
+    ensures { result.now ≡ part_text part }
+{
+    match part {
+        Part::Present => b"present",
+        Part::Frame => b"frame",
+        Part::Absent => b"absent",
+        Part::Linked => b"linked",
+        Part::Owner => b"owner",
+        Part::Untied => b"untied",
+    }
+}
