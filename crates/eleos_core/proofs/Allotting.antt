@@ -89,7 +89,7 @@ page_untouched mark start n p (page_part f us) holds out = ap (page_part f) (kep
   kept a (v ∷ vs) inside = λ t. (ap (λ b. if b then marked mark (is_some f) v else v) (out a inside.0 (let long = inside.1 in omega arith))) t ∷ kept (a + 1) vs (let low = inside.0 in omega arith, let long = inside.1 in omega arith) t
 
 -- the live blocks of an enclave after a call
-live_home : (k : Plan) (e who : ℕ) (op : Calls) (reply : Reply) (blocks : List Live) → e ≡ enclave_of k who → live_by k e who (Op op) reply blocks ≡ blocks_after sub_size e who op reply blocks
+pub live_home : (k : Plan) (e who : ℕ) (op : Calls) (reply : Reply) (blocks : List Live) → e ≡ enclave_of k who → live_by k e who (Op op) reply blocks ≡ blocks_after sub_size e who op reply blocks
 live_home k e who op reply blocks same = ap (λ b. if b then blocks_after sub_size e who op reply blocks else blocks) (eq-eqb e (enclave_of k who) same)
 
 live_elsewhere : (k : Plan) (e who : ℕ) (op : Calls) (reply : Reply) (blocks : List Live) → e ≢ enclave_of k who → live_by k e who (Op op) reply blocks ≡ blocks

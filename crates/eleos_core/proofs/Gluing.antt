@@ -24,7 +24,7 @@ use Rattle.eleos_core.proofs.Ordered.{none_empty}
 use Rattle.eleos_core.proofs.Sets.{cell_of-alloc}
 
 -- a number stands in a list, or does not
-has_or_not : (c : ℕ) (xs : List ℕ) → Has c xs ⊎ (Has c xs → ⊥)
+pub has_or_not : (c : ℕ) (xs : List ℕ) → Has c xs ⊎ (Has c xs → ⊥)
 has_or_not c [] = inr (λ h. h)
 has_or_not c (x ∷ xs) = dite (ℕ_discrete c x) (λ same. inl (inl same))
     (λ ne. ⊎_elim (λ (there : Has c xs). inl (inr there))
@@ -39,7 +39,7 @@ module _ (k : Plan) (x : Seals) (good : IsGood k) where
   len_call past d (Read at n) within step = tt
   len_call past d (Write at new) within step = tt
 
-  len_is : (past : History) (d : Stamp) (event : Event) → IsWithin k d.entry.who event → EventOn k x d (part_at k x past) event → IsLenOf k past d.entry.who event d.len
+  pub len_is : (past : History) (d : Stamp) (event : Event) → IsWithin k d.entry.who event → EventOn k x d (part_at k x past) event → IsLenOf k past d.entry.who event d.len
   len_is past d (Op op) within step = len_call past d op within step
   len_is past d (Link at) within step = tt
   len_is past d (Unlink p) within step = tt

@@ -110,7 +110,7 @@ no_bytes : (us : List SubPage) → AllByRecursion (λ (u : SubPart). u.bytes ≡
 no_bytes [] = tt
 no_bytes (u ∷ us) = (refl, no_bytes us)
 
-page_is_one : (us : List SubPage) (present : Option Present) → length us ≡ subs_per_page → IsPagePart (page_part (frame_of_page present) (sub_parts us present))
+pub page_is_one : (us : List SubPage) (present : Option Present) → length us ≡ subs_per_page → IsPagePart (page_part (frame_of_page present) (sub_parts us present))
 page_is_one us None whole = (length-map us (λ (v : SubPage). part_with v []) ∙ whole, λ none. no_bytes us)
 page_is_one us (Some present) whole = (length-map_from (λ j v. part_with v (piece j present.bytes.items)) 0 us ∙ whole, λ none. absurd (let wrong : Some present.frame ≡ None = none in cc))
 
@@ -121,7 +121,7 @@ parts_are wear frames (page ∷ pages) (suc p) d all inside = parts_are wear fra
 
 module _ (mark : Mark) (start n p i : ℕ) (at : subs_per_page * p + i ≡ start + n) (small : i < subs_per_page) where
   -- in its own page
-  page_more : (q : Part) → IsPagePart q → with_marked mark i (page_marked mark start n p q) ≡ page_marked mark start (n + 1) p q
+  pub page_more : (q : Part) → IsPagePart q → with_marked mark i (page_marked mark start n p q) ≡ page_marked mark start (n + 1) p q
   page_more no_part holds = absurd holds
   page_more (alloc_part blocks) holds = absurd holds
   page_more (clock_part fs) holds = absurd holds

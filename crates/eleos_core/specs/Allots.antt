@@ -1,5 +1,5 @@
 -- Allocs, frees and shares by the parts of the machine's cells.
-use Rattle.std.specs.Prelude.{◌≡◌, ℕ, ◌*◌, List, [], Bool, false, true, Option, is_some, option_map, slice_index_or, slice_set, if◌then◌else◌}
+use Rattle.std.specs.Prelude.{◌≡◌, ℕ, ◌*◌, List, [], length, Bool, false, true, Option, is_some, option_map, slice_index_or, slice_set, if◌then◌else◌}
 use Rattle.std.specs.List.{AllByRecursion}
 use Rattle.eleos_base.specs.declared.memory.Live.{Live}
 use Rattle.eleos_base.specs.declared.memory.Op.{Op as Calls}
@@ -77,8 +77,8 @@ pub record ArePages (pages : List Page) : Type 0 where
   pub frames : ℕ
   pub each : AllByRecursion (IsPage wear frames) pages
 
--- and of one of its pages
-pub record IsAPage (page : Page) : Type 0 where
-  pub wear : ℕ
+-- a page has its sub-pages, and the bytes of a page where it is in a frame
+pub record IsWholePage (page : Page) : Type 0 where
+  pub whole : length page.subs.items ≡ subs_per_page
   pub frames : ℕ
-  pub holds : IsPage wear frames page
+  pub present : IsPresent frames page.present

@@ -7,15 +7,16 @@ mod homes;
 mod lists;
 mod marks;
 
-use crate::allots::homes::{enclave_of, first_sub, subs_of};
 use crate::allots::lists::{lowest_in, owned_in, put_in, share_in, take_from};
-use crate::allots::marks::{Mark, mark_run};
+use crate::allots::marks::mark_run;
 use crate::blocks::SUB_BYTES;
 use crate::machine::Core;
 use eleos_base::{Addr, Live, NoMemory, Op, Reply};
+pub use homes::{SUBS_PER_PAGE, enclave_of, first_sub, subs_of};
+pub use marks::{Mark, mark_sub};
 
 /// Most bytes of a block.
-const MOST_BYTES: u32 = 65_536;
+pub const MOST_BYTES: u32 = 65_536;
 
 impl Core {
     /// Allocates a block of so many bytes in the lowest free run of the caller's enclave, and

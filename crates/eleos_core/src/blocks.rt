@@ -1,6 +1,6 @@
 // Live blocks, and the runs that are free between them.
-ghost use Rattle.std.specs.Prelude.{◌≡◌, ◌≤◌, length, nat_lt};
-ghost use Rattle.std.specs.Prelude.{map, filter, not, OnOk, OnErr};
+ghost use Rattle.std.specs.Prelude.{◌≡◌, ◌<◌, ◌≤◌, length, nat_lt, vec_capacity};
+ghost use Rattle.std.specs.Prelude.{map, filter, not, IsOk, OnOk, OnErr};
 ghost use Rattle.std.specs.List.{find, position, position_or_len};
 ghost use Rattle.eleos_base.specs.Plain.{lowest_run, with_block, starts_at, shared_at};
 ghost use Rattle.eleos_core.specs.Order.{AreInOrder};
@@ -30,6 +30,8 @@ pub fn lowest_run(blocks: &[Live], subs: u32, len: u32) -> Option<u32>
 pub fn add_block(blocks: &mut Vec<Live>, block: Live) -> Result<(), NoMemory>
     ensures ok { OnOk result (blocks.new.items ≡ with_block block blocks.old.items) }
     ensures err { OnErr result (blocks.new.items ≡ blocks.old.items) }
+    ensures room { length blocks.old.items < vec_capacity blocks.old → IsOk result }
+    ensures capacity { vec_capacity blocks.old ≤ vec_capacity blocks.new }
 {
     let place = place_for(blocks, block);
     blocks.insert(place, block)?;
@@ -69,8 +71,9 @@ fn starts_at(block: &Live, enclave: u16, at: Addr) -> bool
 
 /// Takes away the block that starts at the address.
 pub fn remove_at(blocks: &mut Vec<Live>, enclave: u16, at: Addr)
-    ensures { blocks.new.items
+    ensures items { blocks.new.items
         ≡ filter (λ block. not (starts_at 1024 enclave at block)) blocks.old.items }
+    ensures capacity { vec_capacity blocks.new ≡ vec_capacity blocks.old }
 {
     blocks.retain(|block| !starts_at(block, enclave, at));
 }

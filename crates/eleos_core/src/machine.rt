@@ -1,6 +1,7 @@
 // The machine's cells, and the links on its pages.
 ghost use Rattle.std.specs.Prelude.{◌≡◌};
 ghost use Rattle.eleos_core.specs.declared.machine.ApplyRefused.TheVariants as refusals;
+ghost use Rattle.eleos_core.specs.Cells.{IsCore, cells_of};
 
 use crate::cells::{Alloc, Clock, Frame, Page};
 use eleos_base::{Bytes, List, NoMemory, Part, Plan, Reply};
@@ -58,4 +59,40 @@ impl Model for Core {
     ghost view = { λ v. cells_of v.plan v.live.items v.clocks.items v.pages.items v.frames.items v.links.items };
 
     ghost invariant = { λ v. IsCore v.plan v.live.items v.clocks.items v.pages.items v.frames.items v.links.items };
+}
+
+/// The cells of a machine, for who keeps them in another way.
+#[derive(Drop)]
+pub struct CoreCells {
+    /// Enclave by enclave.
+    pub live: Vec<Alloc>,
+    /// Enclave by enclave, and the pool's last.
+    pub clocks: Vec<Clock>,
+    pub pages: Vec<Page>,
+    pub frames: Vec<Frame>,
+}
+
+impl Core {
+    /// Takes the machine apart. The links are let go.
+    pub fn into_cells(self) -> CoreCells
+        ensures cells { cells_of self.plan result.live.items result.clocks.items
+            result.pages.items result.frames.items self.links ≡ self }
+        ensures core { IsCore self.plan result.live.items result.clocks.items
+            result.pages.items result.frames.items self.links }
+    {
+        let Core {
+            plan: _,
+            live,
+            clocks,
+            pages,
+            frames,
+            links: _,
+        } = self;
+        CoreCells {
+            live,
+            clocks,
+            pages,
+            frames,
+        }
+    }
 }

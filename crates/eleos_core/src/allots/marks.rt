@@ -2,7 +2,7 @@
 ghost use Rattle.std.specs.Prelude.{◌≡◌, ◌+◌, ◌*◌, ◌<◌, ◌≤◌, ℕ, List, Bool, Option, length, map};
 ghost use Rattle.std.specs.List.{splice};
 ghost use Rattle.eleos_base.specs.Plain.{zeros};
-ghost use Rattle.eleos_core.specs.Allots.{ArePages, IsAPage, IsCleared, KeepsPage, KeepsPages};
+ghost use Rattle.eleos_core.specs.Allots.{ArePages, IsCleared, IsWholePage, KeepsPage, KeepsPages};
 ghost use Rattle.eleos_core.specs.Allots.{marked, marked_block, marked_bytes};
 ghost use Rattle.eleos_core.specs.Allots.{run_marked, with_marked};
 ghost use Rattle.eleos_core.specs.Cells.{IsPresent, IsSubPage, part_of_page, part_with};
@@ -39,11 +39,12 @@ pub fn mark_run(pages: &mut [Page], first: u32, len: u32, mark: Mark)
 }
 
 /// Marks one of the page's sub-pages.
-fn mark_sub(page: &mut Page, index: usize, mark: Mark)
+pub fn mark_sub(page: &mut Page, index: usize, mark: Mark)
     requires index { index < 4 }
-    requires page { IsAPage page.old }
+    requires page { IsWholePage page.old }
     ensures part { part_of_page page.new ≡ with_marked mark index (part_of_page page.old) }
     ensures keeps { KeepsPage page.old page.new }
+    ensures whole { IsWholePage page.new }
 {
     page.subs[index] = marked(mark, page.subs[index]);
     match mark {

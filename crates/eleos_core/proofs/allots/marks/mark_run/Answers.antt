@@ -13,12 +13,9 @@ loop-i-init c = record {
 pub mark_sub-requires-clause-page : goal.mark_sub-requires-clause-page
 mark_sub-requires-clause-page c =
     let inside : (c.args.first + c.loop-i.i) / 4 < length c.loop-i.pages = (let within = c.requires.within in let same = c.loop-i.auto.pages in let more = c.loop-i-test.true in omega arith) in
-    record {
-      wear = c.requires.pages.wear;
-      frames = c.requires.pages.frames;
-      holds = all_at (IsPage c.requires.pages.wear c.requires.pages.frames) c.loop-i.pages ((c.args.first + c.loop-i.i) / 4) c.index-pages-place.result
-          (c.loop-i.invariant.keeps c.requires.pages.wear c.requires.pages.frames c.requires.pages.each) inside;
-    }
+    let holds = all_at (IsPage c.requires.pages.wear c.requires.pages.frames) c.loop-i.pages ((c.args.first + c.loop-i.i) / 4) c.index-pages-place.result
+    (c.loop-i.invariant.keeps c.requires.pages.wear c.requires.pages.frames c.requires.pages.each) inside in
+    record { whole = holds.whole; frames = c.requires.pages.frames; present = holds.present }
 
 pub loop-i-preserved : goal.loop-i-preserved
 loop-i-preserved c =

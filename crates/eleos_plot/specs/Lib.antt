@@ -1,0 +1,9 @@
+pub mod Cells
+pub mod Drafts
+pub mod Terms
+pub mod Locality
+pub mod Histories
+pub mod Laws
+pub mod Refs
+pub mod Entries
+pub mod Fits
