@@ -1,0 +1,7 @@
+mod Rooms
+mod Lawful
+mod Listed
+mod CellsInOrder
+mod Judged
+mod Wholes
+mod Refusals

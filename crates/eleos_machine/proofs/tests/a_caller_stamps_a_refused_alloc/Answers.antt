@@ -1,0 +1,7 @@
+use Rattle.std.proofs.Common.{◌+◌, ◌∙◌, ap}
+use Rattle.eleos_turn.specs.Hands.{dealt}
+use Rattle.eleos_machine.proofs.tests.a_caller_stamps_a_refused_alloc.Goals as goal
+
+-- a pass for the caller, for the swapper and for the balloon
+pub three_passes-requires : goal.three_passes-requires
+three_passes-requires g c = c.in-Ok-make.ensures.passes ∙ ap (λ n. dealt c.in-Ok-make.machine 0 (n + 2)) c.in_ok-plan.ensures

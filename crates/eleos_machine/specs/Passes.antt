@@ -1,0 +1,56 @@
+-- What contracts see of a pass, and what holds of each.
+use Rattle.std.specs.Prelude.{◌≡◌, ℕ, []}
+use Rattle.eleos_base.specs.declared.plan.Plan.{Plan}
+use Rattle.eleos_base.specs.Ties.{Has}
+use Rattle.eleos_core.specs.Parts.{Part, Stamp, cell_of}
+use Rattle.eleos_core.specs.Seals.{Seals}
+use Rattle.eleos_core.specs.State.{History}
+use Rattle.eleos_plot.specs.declared.cell.Cell.{Cell}
+use Rattle.eleos_plot.specs.declared.plot.Ground.{Ground}
+use Rattle.eleos_plot.specs.Cells.{part_of_cell}
+use Rattle.eleos_plot.specs.Fits.{Fits}
+use Rattle.eleos_plot.specs.Histories.{IsMachineRun, history_of, part_after}
+use Rattle.eleos_plot.specs.Terms.{core_terms}
+use Rattle.eleos_turn.specs.Hands.{Goes, HandState, IsSound, Took, without_turn}
+use Rattle.eleos_machine.specs.Machines.{IsMachine, plan_at, seals_at}
+
+-- a pass: its hand at the machine's turnstile, and the entry that it is to stamp next
+pub record PassState : Type 0 where
+  pub hand : HandState Stamp Part Ground
+  pub draft : Stamp
+
+-- the plan and the sealing of its machine
+abbrev pub plan_of : PassState → Plan
+plan_of s = plan_at s.hand.home
+
+abbrev pub seals_of : PassState → Seals
+seals_of s = seals_at s.hand.home
+
+-- the history that it has seen, the last entry first
+abbrev pub seen : PassState → History
+seen s = history_of s.hand.seen
+
+-- what that history made of a cell
+abbrev pub part_seen : PassState → ℕ → Part
+part_seen s c = part_after s.hand.home.base.grounds (seen s) c
+
+-- what holds of each pass at any time: its machine was made of a good plan, and what it has seen is a legal history of that machine
+pub record IsLawful (s : PassState) : Type 0 where
+  pub machine : IsMachine s.hand.home
+  pub hand : IsSound core_terms s.hand
+  pub run : IsMachineRun s.hand.home.base s.hand.seen
+
+-- the turn of the cell c was taken, with the word n and the value x, and nothing was stamped
+pub record TookTurn (c n : ℕ) (s : PassState) (x : Cell) (s' : PassState) : Type 0 where
+  pub took : Took core_terms c n s.hand x s'.hand
+  pub draft : s'.draft ≡ s.draft
+  -- the value is what the history seen then made of the cell
+  pub value : part_of_cell x ≡ part_seen s' c
+  pub fits : Fits (plan_of s) (cell_of (plan_of s) c) x
+  -- no other pass touched a cell whose turn was held
+  pub held : (d : ℕ) → Has d s.hand.turns → part_seen s' d ≡ part_seen s d
+  pub goes : Goes core_terms s.hand s'.hand []
+
+-- the pass after it gave back the turn of c
+abbrev pub gave : PassState → ℕ → PassState
+gave s c = record s { hand = without_turn s.hand c }

@@ -1,0 +1,153 @@
+// A machine is closed, with all its passes.
+ghost use Rattle.std.specs.Prelude.{vec_capacity, ◌≡◌, ◌+◌, ◌<◌, ◌≤◌, [], length, IsOk, IfOk, IfErr, None, Some, IsTrue};
+ghost use Rattle.eleos_turn.specs.Closings.{AllOf, IsWhole};
+ghost use Rattle.eleos_plot.specs.Terms.{core_terms};
+ghost use Rattle.eleos_machine.specs.Closing.{AllOfMachine, HasClosed, close_fault, first_with, hands_of, has_all};
+ghost use Rattle.eleos_machine.specs.Closing.{has_foreign, has_link, has_number, has_turn};
+ghost use Rattle.eleos_machine.specs.Machines.{IsMachine, all_passes};
+
+use crate::machine::Machine;
+use crate::pass::Pass;
+use eleos_base::Sealer;
+use eleos_plot::{CorePlot, Draft};
+use eleos_turn::{Closed, Hand};
+
+/// Why a machine is not closed.
+#[derive(Clone, Copy, Debug, PartialEq, Eq)]
+pub enum CloseWhy {
+    /// A pass that was made is not there.
+    Missing,
+    /// A pass that was not made is there.
+    Foreign,
+    /// This pass has a link.
+    Linked { who: u32 },
+    /// This pass has a turn.
+    Held { who: u32 },
+}
+
+/// The machine and the passes, handed back.
+#[derive(Drop)]
+pub struct CloseRefused<S: Sealer> {
+    pub machine: Machine<S>,
+    pub passes: Vec<Pass>,
+    pub why: CloseWhy,
+}
+
+impl<S: Sealer + Drop> Machine<S> {
+    /// Ends the machine, and gives a pass that has seen the whole history. It is refused exactly where
+    /// there is a fault; then all is handed back. Takes no memory.
+    pub fn close(self, passes: Vec<Pass>) -> Result<Pass, CloseRefused<S>>
+        requires own { AllOfMachine self passes.items }
+        ensures done { IsOk result → close_fault self.base.hands passes.items ≡ None }
+        ensures why { IfErr result (λ r. close_fault self.base.hands passes.items ≡ Some r.why) }
+        ensures machine { IfErr result (λ r. r.machine ≡ self) }
+        ensures passes { IfErr result (λ r. r.passes.items ≡ passes.items) }
+        ensures closed { IfOk result (λ pass. HasClosed self passes.items pass) }
+    {
+        let count = self.plan.callers.len() as u32 + 2;
+        if let Some(why) = fault_among(passes.as_slice(), count) {
+            return Err(CloseRefused {
+                machine: self,
+                passes,
+                why,
+            });
+        }
+        let Machine {
+            turnstile,
+            plan: _plan,
+            sealer: _sealer,
+            hands,
+        } = self;
+        let (hands, draft) = parted(hands, passes);
+        let Ok(
+            Closed {
+                hand,
+                cells: _cells,
+            },
+        ) = turnstile.close(hands)
+        else {
+            unreachable!()
+        };
+        Ok(Pass { hand, draft })
+    }
+}
+
+/// Why a machine of so many passes is not closed with these.
+fn fault_among(passes: &[Pass], count: u32) -> Option<CloseWhy>
+    requires { count < 4294967295 }
+    ensures { result ≡ close_fault count passes.now }
+{
+    if !has_all(passes, count) {
+        return Some(CloseWhy::Missing);
+    }
+    if passes.len() != count as usize || has_number(passes, 0) {
+        return Some(CloseWhy::Foreign);
+    }
+    if let Some(who) = first_linked(passes) {
+        return Some(CloseWhy::Linked { who });
+    }
+    let who = first_held(passes)?;
+    Some(CloseWhy::Held { who })
+}
+
+/// Whether each of so many numbers is that of a pass.
+fn has_all(passes: &[Pass], count: u32) -> bool
+    requires { count < 4294967295 }
+    ensures { result ≡ has_all count passes.now }
+{
+    (0..count).all(|i| has_number(passes, i + 1))
+}
+
+/// Whether one of the passes has the number.
+fn has_number(passes: &[Pass], number: u32) -> bool
+    ensures { result ≡ has_number number passes.now }
+{
+    passes.iter().any(|pass| pass.who() == number)
+}
+
+/// The first pass that has a link.
+fn first_linked(passes: &[Pass]) -> Option<u32>
+    ensures { result ≡ first_with has_link passes.now }
+{
+    let pass = passes.iter().find(|pass| has_link(pass))?;
+    Some(pass.who())
+}
+
+fn has_link(pass: &Pass) -> bool
+    ensures { result ≡ has_link pass.now }
+{
+    pass.hand.number() != 0 && pass.hand.links() != 0
+}
+
+/// The first pass that has a turn.
+fn first_held(passes: &[Pass]) -> Option<u32>
+    ensures { result ≡ first_with has_turn passes.now }
+{
+    let pass = passes.iter().find(|pass| has_turn(pass))?;
+    Some(pass.who())
+}
+
+fn has_turn(pass: &Pass) -> bool
+    ensures { result ≡ has_turn pass.now }
+{
+    pass.hand.turns() != 0
+}
+
+/// The hands of the passes, in the room for them, and the draft of one.
+fn parted(room: Vec<Hand<CorePlot>>, passes: Vec<Pass>) -> (Vec<Hand<CorePlot>>, Draft)
+    requires some { 0 < length passes.items }
+    requires empty { room.items ≡ [] }
+    requires room { length passes.items ≤ vec_capacity room }
+    ensures { result.0.items ≡ hands_of passes.items }
+{
+    let mut hands = room;
+    let mut last = None;
+    for Pass { hand, draft } in passes {
+        let Ok(()) = hands.push(hand) else {
+            unreachable!()
+        };
+        last = Some(draft);
+    }
+    let Some(draft) = last else { unreachable!() };
+    (hands, draft)
+}

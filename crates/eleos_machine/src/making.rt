@@ -1,0 +1,101 @@
+// A machine is made of a plan, with its passes.
+ghost use Rattle.std.specs.Prelude.{vec_capacity, ◌≡◌, ◌↔◌, ◌≤◌, [], Some, Err, IfOk};
+ghost use Rattle.eleos_turn.specs.Closings.{AllOf};
+ghost use Rattle.eleos_turn.specs.Hands.{dealt};
+ghost use Rattle.eleos_machine.specs.declared.judging.PlanField.{PlanField as Fields};
+ghost use Rattle.eleos_machine.specs.declared.making.MakeRefused.TheVariants as refusals;
+ghost use Rattle.eleos_machine.specs.Closing.{hands_of};
+ghost use Rattle.eleos_machine.specs.Judging.{CanBeMade, plan_fault};
+ghost use Rattle.eleos_machine.specs.Machines.{IsMachine, all_passes};
+
+use crate::cells::opening_cells;
+use crate::judging::{PlanField, fault_of};
+use crate::machine::Machine;
+use crate::opening::open;
+use crate::pass::Pass;
+use eleos_base::{NoMemory, Plan, Sealer};
+use eleos_plot::{CorePlot, Draft};
+use eleos_turn::{Hand, Turnstile};
+use std::alloc::Global;
+
+/// Why no machine was made.
+#[derive(Clone, Copy, Debug, PartialEq, Eq)]
+pub enum MakeRefused {
+    NoMemory,
+    /// The first field of the plan that no machine can have.
+    BadPlan { field: PlanField },
+}
+
+impl From<NoMemory> for MakeRefused {
+    ghost from_gives = { λ _ refused. refused ≡ refusals.NoMemory };
+
+    fn from(_: NoMemory) -> Self {
+        MakeRefused::NoMemory
+    }
+}
+
+impl<S: Sealer + Drop> Machine<S> {
+    /// Makes the machine of a plan, with its passes: those of the callers first, then the swapper's and
+    /// the balloon's. All room for later calls is taken here.
+    pub fn make(
+        alloc: Global,
+        plan: &Plan,
+        sealer: S,
+    ) -> Result<(Machine<S>, Vec<Pass>), MakeRefused>
+        ensures bad_plan { (field : Fields)
+            → (result ≡ Err (refusals.BadPlan field)) ↔ (plan_fault plan.now ≡ Some field) }
+        ensures plan { IfOk result (λ r. r.0.base.grounds.plan ≡ plan.now) }
+        ensures key { IfOk result (λ r. r.0.base.grounds.key ≡ S.key sealer) }
+        ensures machine { IfOk result (λ r. IsMachine r.0) }
+        ensures passes { IfOk result (λ r. hands_of r.1.items ≡ dealt r.0 0 (all_passes plan.now)) }
+    {
+        if let Some(field) = fault_of(plan) {
+            return Err(MakeRefused::BadPlan { field });
+        }
+        Ok(make_good(alloc, plan, sealer)?)
+    }
+}
+
+/// Makes the machine of a plan that has no fault.
+fn make_good<S: Sealer + Drop>(
+    alloc: Global,
+    plan: &Plan,
+    sealer: S,
+) -> Result<(Machine<S>, Vec<Pass>), NoMemory>
+    requires can { CanBeMade plan.now }
+    ensures plan { IfOk result (λ r. r.0.base.grounds.plan ≡ plan.now) }
+    ensures key { IfOk result (λ r. r.0.base.grounds.key ≡ S.key sealer) }
+    ensures machine { IfOk result (λ r. IsMachine r.0) }
+    ensures passes { IfOk result (λ r. hands_of r.1.items ≡ dealt r.0 0 (all_passes plan.now)) }
+{
+    let count = plan.callers.len() as u32 + 2;
+    let cells = opening_cells(alloc, plan)?;
+    let (turnstile, hands) = open(alloc, cells, plan, &sealer, count)?;
+    let passes = passes_of(alloc, plan, &turnstile, hands)?;
+    let machine = Machine {
+        turnstile,
+        plan: plan.copy(alloc)?,
+        sealer,
+        hands: Vec::with_capacity(alloc, count as usize)?,
+    };
+    Ok((machine, passes))
+}
+
+/// The passes of these hands.
+fn passes_of(
+    alloc: Global,
+    plan: &Plan,
+    _turnstile: &Turnstile<CorePlot>,
+    hands: Vec<Hand<CorePlot>>,
+) -> Result<Vec<Pass>, NoMemory>
+    requires machine { IsMachine _turnstile.now }
+    requires own { AllOf _turnstile.now hands.items }
+    ensures { IfOk result (λ passes. hands_of passes.items ≡ hands.items) }
+{
+    let mut passes = Vec::with_capacity(alloc, hands.len())?;
+    for hand in hands {
+        let draft = Draft::make(alloc, plan)?;
+        passes.push(Pass { hand, draft })?;
+    }
+    Ok(passes)
+}

@@ -1,0 +1,94 @@
+// Passes: what one thread has of a machine.
+ghost use Rattle.std.specs.Prelude.{◌≡◌, []};
+ghost use Rattle.eleos_machine.specs.Passes.{IsLawful};
+
+use eleos_plot::{CorePlot, Draft};
+use eleos_turn::{Hand, Refused, RestHand};
+use std::marker::Model;
+
+/// What one thread has of a machine: its hand there, and the room of the entry that it is to stamp
+/// next. Callers have the numbers from 1 on, then come the swapper and the balloon.
+#[derive(Drop)]
+pub struct Pass {
+    pub(crate) hand: Hand<CorePlot>,
+    pub(crate) draft: Draft,
+}
+
+impl Model for Pass {
+    ghost use Rattle.eleos_machine.specs.Machines.{IsMachine};
+    ghost use Rattle.eleos_machine.specs.Passes.{PassState};
+
+    ghost Value = { PassState };
+
+    ghost view = { λ p. record { hand = p.hand; draft = p.draft } };
+
+    ghost invariant = { λ p. IsMachine p.hand.home };
+}
+
+/// A pass that has no turn, in a form that can lie in a cell of another turnstile.
+#[derive(Drop)]
+pub struct RestPass {
+    hand: RestHand<CorePlot>,
+    draft: Draft,
+}
+
+impl Model for RestPass {
+    ghost use Rattle.eleos_machine.specs.Machines.{IsMachine};
+    ghost use Rattle.eleos_machine.specs.Passes.{PassState};
+
+    ghost Value = { PassState };
+
+    ghost view = { λ p. record { hand = p.hand; draft = p.draft } };
+
+    ghost invariant = { λ p. IsMachine p.hand.home };
+}
+
+impl Pass {
+    /// Its number: 1 to n for the callers, n + 1 for the swapper, n + 2 for the balloon, and 0 for the
+    /// pass that `close` gives.
+    pub fn who(&self) -> u32
+        ensures { result ≡ self.now.hand.number }
+    {
+        self.hand.number()
+    }
+
+    /// How many stamps are left.
+    pub fn left(&self) -> u64
+        ensures left { result ≡ self.now.hand.left }
+        ensures lawful { IsLawful self.now }
+    {
+        self.hand.left()
+    }
+
+    /// The last try that found a cell busy.
+    pub fn refused(&self) -> Refused
+        ensures { result ≡ self.now.hand.refused }
+    {
+        self.hand.refused()
+    }
+
+    /// Puts the pass to rest.
+    pub fn rest(self) -> RestPass
+        requires { self.hand.turns ≡ [] }
+        ensures { result ≡ self }
+    {
+        let Pass { hand, draft } = self;
+        RestPass {
+            hand: hand.rest(),
+            draft,
+        }
+    }
+}
+
+impl RestPass {
+    /// The pass again.
+    pub fn wake(self) -> Pass
+        ensures { result ≡ self }
+    {
+        let RestPass { hand, draft } = self;
+        Pass {
+            hand: hand.wake(),
+            draft,
+        }
+    }
+}
