@@ -1,0 +1,5 @@
+pub mod TurnsHeld
+pub mod Calling
+pub mod Changing
+pub mod Marking
+pub mod Outer

@@ -1,0 +1,16 @@
+//! Blocks of the machine that threads share: they are allocated, freed and shared, each call by
+//! one entry of the caller's pass.
+#![tactic(auto)]
+
+mod calls;
+mod changes;
+mod holding;
+mod pages;
+mod refusals;
+mod runs;
+
+pub use calls::{alloc, free, share};
+pub use refusals::{AllocRefused, BlockRefused};
+
+#[cfg(test)]
+mod tests;
