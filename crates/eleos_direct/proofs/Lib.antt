@@ -1,0 +1,5 @@
+pub mod PageCells
+pub mod Ending
+pub mod Holding
+pub mod OnPages
+pub mod Complete

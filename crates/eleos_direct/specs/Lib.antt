@@ -1,0 +1,4 @@
+pub mod Entered
+pub mod Held
+pub mod Accesses
+pub mod Laws

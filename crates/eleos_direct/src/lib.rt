@@ -1,0 +1,15 @@
+//! Reads and writes of a caller within one sub-page, wherever its page is. Each is one entry of the machine's
+//! history, needs no frame and takes no memory.
+#![tactic(auto)]
+
+mod begins;
+mod ends;
+pub mod laws;
+mod reads;
+mod refusals;
+mod writes;
+
+pub use eleos_pages::AccessRefused;
+pub use reads::{read, try_read};
+pub use refusals::TryRefused;
+pub use writes::{MOST_WRITTEN, try_write, write};

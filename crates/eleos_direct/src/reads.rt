@@ -1,0 +1,136 @@
+// Reads within one sub-page.
+ghost use Rattle.std.specs.Prelude.{◌≡◌, ◌<◌, ◌≤◌, ◌^◌, [], length, OnErr};
+ghost use Rattle.eleos_base.specs.declared.memory.Op.TheVariants as calls;
+ghost use Rattle.eleos_base.specs.declared.memory.Reply.TheVariants as replies;
+ghost use Rattle.eleos_core.specs.Accesses.{read_stamp};
+ghost use Rattle.eleos_direct.specs.Accesses.{HasAccessed, TriesAccess};
+ghost use Rattle.eleos_direct.specs.Entered.{CanCall, Enters};
+ghost use Rattle.eleos_direct.specs.Held.{AccessesHeld, HoldsPage, IsOutside, access_stamp};
+ghost use Rattle.eleos_machine.specs.Machines.{plan_at};
+ghost use Rattle.eleos_pages.specs.Crossed.{IsReady, came, came_if};
+ghost use Rattle.eleos_pages.specs.Replies.{read_reply};
+
+use crate::begins::begin;
+use crate::ends::end;
+use crate::refusals::{TryRefused, reply_to};
+use eleos_base::{Addr, Sealer};
+use eleos_host::{HostPort, Tap};
+use eleos_machine::{Machine, Pass};
+use eleos_pages::{AccessRefused, Accessed, read_page};
+use eleos_plot::{Cell, EventRef, OpRef, ReplyRef};
+use std::sync::Wait;
+
+/// Reads within one sub-page into the buffer, which a refusal leaves as it was. It waits for the
+/// turn of the page.
+pub fn read<S: Sealer, P: HostPort, R: Wait>(
+    rt: &R,
+    m: &Machine<S>,
+    pass: &mut Pass,
+    tap: &mut Tap<P>,
+    at: Addr,
+    buf: &mut [u8],
+) -> Result<(), AccessRefused>
+    requires can { CanCall m.now pass.old }
+    requires buffer { length buf.old < 2 ^ 32 }
+    ensures accessed { HasAccessed P.HostPort.own P.HostStore.own pass.old tap.old.port at
+        (calls.Read at (length buf.old)) (read_reply result buf.new) pass.new tap.new }
+    ensures refused { OnErr result (buf.new ≡ buf.old) }
+{
+    let Some(cell) = begin(m, pass, tap, at, buf.len()) else {
+        refuse_read(m, pass, at, buf.len());
+        return Err(AccessRefused::BadRange);
+    };
+    let taken = m.take(rt, pass, cell, true);
+    read_held(m, pass, tap, at, cell, taken.value, buf)
+}
+
+/// The same, but it never waits.
+pub fn try_read<S: Sealer, P: HostPort>(
+    m: &Machine<S>,
+    pass: &mut Pass,
+    tap: &mut Tap<P>,
+    at: Addr,
+    buf: &mut [u8],
+) -> Result<(), TryRefused>
+    requires can { CanCall m.now pass.old }
+    requires buffer { length buf.old < 2 ^ 32 }
+    ensures accessed { TriesAccess P.HostPort.own P.HostStore.own pass.old tap.old.port at
+        (calls.Read at (length buf.old)) (length buf.old) (replies.Text buf.new) result pass.new tap.new }
+    ensures refused { OnErr result (buf.new ≡ buf.old) }
+{
+    let Some(cell) = begin(m, pass, tap, at, buf.len()) else {
+        refuse_read(m, pass, at, buf.len());
+        return Err(TryRefused::Access(AccessRefused::BadRange));
+    };
+    let taken = match m.try_take(pass, cell, true) {
+        Ok(taken) => taken,
+        Err(busy) => return Err(TryRefused::Busy { word: busy.word }),
+    };
+    match read_held(m, pass, tap, at, cell, taken.value, buf) {
+        Ok(()) => Ok(()),
+        Err(refused) => Err(TryRefused::Access(refused)),
+    }
+}
+
+/// Stamps a read of so many bytes that is out of range.
+fn refuse_read<S: Sealer>(m: &Machine<S>, pass: &mut Pass, at: Addr, len: usize)
+    requires can { CanCall m.now pass.old }
+    requires buffer { len < 2 ^ 32 }
+    requires outside { IsOutside (plan_at m.now) pass.old.hand.number at len }
+    ensures { Enters pass.old (access_stamp pass.old (calls.Read at len) [] replies.BadRange) pass.new }
+{
+    let op = OpRef::Read {
+        at,
+        len: len as u32,
+    };
+    pass.set(EventRef::Op(op), ReplyRef::BadRange);
+    m.stamp(pass);
+}
+
+/// Reads on the page whose turn was taken, and gives it back.
+fn read_held<S: Sealer, P: HostPort>(
+    m: &Machine<S>,
+    pass: &mut Pass,
+    tap: &mut Tap<P>,
+    at: Addr,
+    cell: u32,
+    value: Cell,
+    buf: &mut [u8],
+) -> Result<(), AccessRefused>
+    requires holds { HoldsPage m.now pass.old at (length buf.old) cell value }
+    requires ready { IsReady tap.old }
+    ensures accessed { AccessesHeld P.HostPort.own P.HostStore.own pass.old tap.old at
+        (calls.Read at (length buf.old)) (read_reply result buf.new) pass.new tap.new }
+    ensures refused { OnErr result (buf.new ≡ buf.old) }
+{
+    let Cell::Page(page) = value else {
+        unreachable!()
+    };
+    let accessed = read_page(m.plan(), m.sealer(), tap, &page, pass.who(), at, buf);
+    draft_read(pass, tap, at, buf, accessed);
+    end(m, pass, cell, page);
+    accessed.answer
+}
+
+/// Makes the draft the read with its answer.
+fn draft_read<P: HostPort>(pass: &mut Pass, tap: &Tap<P>, at: Addr, buf: &[u8], accessed: Accessed)
+    requires small { length buf.now ≤ 1024 }
+    requires block { came tap.now ≡ came_if accessed.has_block tap.now }
+    ensures { pass.new ≡ record pass.old {
+      draft = read_stamp pass.old.hand.number at
+          (length buf.now) (came tap.now) (read_reply accessed.answer buf.now);
+    } }
+{
+    let op = OpRef::Read {
+        at,
+        len: buf.len() as u32,
+    };
+    let reply = match accessed.answer {
+        Ok(()) => ReplyRef::Text(buf),
+        Err(refused) => reply_to(refused),
+    };
+    pass.set(EventRef::Op(op), reply);
+    if accessed.has_block {
+        pass.add_block(tap.block(0));
+    }
+}

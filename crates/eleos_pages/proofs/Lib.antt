@@ -1,0 +1,3 @@
+pub mod CrossedBlocks
+pub mod Reading
+pub mod Writing

@@ -1,0 +1,79 @@
+-- What crossed between a tap and its host in a call.
+use Rattle.std.specs.Prelude.{◌≡◌, ℕ, List, [], ◌∷◌, map, Bool, Option, Some, None, option_map, if◌then◌else◌}
+use Rattle.std.specs.List.{AllByRecursion}
+use Rattle.eleos_base.specs.declared.memory.Reply.{Reply}
+use Rattle.eleos_base.specs.declared.memory.Reply.TheVariants.{Tampered}
+use Rattle.eleos_host.specs.declared.port.HostPort.{Ghosts}
+use Rattle.eleos_host.specs.declared.port.HostStore as store
+use Rattle.eleos_host.specs.declared.slot.SlotState.{SlotState}
+use Rattle.eleos_host.specs.declared.slot.SlotState.TheVariants.{AsItCame}
+use Rattle.eleos_host.specs.Crossings.{Placed, none_yet, with_crossing}
+use Rattle.eleos_host.specs.Stores.{Store, put_to}
+use Rattle.eleos_host.specs.Taps.{TapState, IsIdle, block_of, state_of}
+
+-- the block of a slot, where it is as it came
+abbrev pub came_as : SlotState → List ℕ → List (List ℕ)
+came_as AsItCame block = block ∷ []
+came_as _ block = []
+
+-- these blocks crossed too, each at its place, in order
+abbrev pub with_crossings : Option (List Placed) → List (ℕ × List ℕ) → Option (List Placed)
+with_crossings told [] = told
+with_crossings told (q ∷ qs) = with_crossings (with_crossing told q.0 q.1) qs
+
+-- the store after these blocks were put, each to its place
+abbrev pub with_puts : Store → List (ℕ × List ℕ) → Store
+with_puts s [] = s
+with_puts s (q ∷ qs) = with_puts (put_to s q.0 q.1) qs
+
+-- blocks that are all of one place
+abbrev pub at_place : ℕ → List (List ℕ) → List (ℕ × List ℕ)
+at_place place blocks = map (λ block. (place, block)) blocks
+
+-- the block that the reply says did not pass: the last that came
+abbrev pub last_of : List (List ℕ) → Option (List ℕ)
+last_of [] = None
+last_of (block ∷ []) = Some block
+last_of (block ∷ blocks) = last_of blocks
+
+abbrev pub spoiled_by : Reply → List (List ℕ) → Option (List ℕ)
+spoiled_by (Tampered s) blocks = last_of blocks
+spoiled_by _ blocks = None
+
+module _ {P : Type 0} where
+  -- the block that came into the first slot since `begin`, if one did
+  abbrev pub came : TapState P → List (List ℕ)
+  came tap = came_as (state_of tap 0) (block_of tap 0)
+
+  -- the block of the first slot where one came, and none else
+  abbrev pub came_if : Bool → TapState P → List (List ℕ)
+  came_if has_block tap = if has_block then block_of tap 0 ∷ [] else []
+
+  -- the tap has begun, and nothing has come for an access yet
+  pub record IsReady (tap : TapState P) : Type 0 where
+    pub idle : IsIdle tap 0
+    pub no_failure : tap.failed ≡ None
+
+module _ {P : Type 0} (port : Ghosts P) (host : store.Ghosts P) where
+  -- the host gave the first of these blocks and took the second, each at its place and in order, and nothing else happened
+  pub record Crosses (old new : P) (given taken : List (ℕ × List ℕ)) : Type 0 where
+    pub gave : AllByRecursion (λ (q : ℕ × List ℕ). port.gave q.0 q.1) given
+    pub took : AllByRecursion (λ (q : ℕ × List ℕ). port.took q.0 q.1) taken
+    pub all_given : port.given new ≡ with_crossings (port.given old) given
+    pub all_taken : port.taken new ≡ with_crossings (port.taken old) taken
+    pub store : host.store new ≡ option_map (λ s. with_puts s taken) (host.store old)
+
+  -- since `begin` the host gave the first of these blocks and took the second, each at its place and in order, and nothing else happened
+  pub record HasCrossed (before new : P) (given taken : List (ℕ × List ℕ)) : Type 0 where
+    pub gave : AllByRecursion (λ (q : ℕ × List ℕ). port.gave q.0 q.1) given
+    pub took : AllByRecursion (λ (q : ℕ × List ℕ). port.took q.0 q.1) taken
+    pub all_given : port.given new ≡ with_crossings none_yet given
+    pub all_taken : port.taken new ≡ with_crossings none_yet taken
+    pub store : host.store new ≡ option_map (λ s. with_puts s taken) (host.store before)
+
+  -- the tap has begun: nothing has crossed, and nothing has come
+  pub record HasBegun (before : P) (tap : TapState P) : Type 0 where
+    pub ready : IsReady tap
+    pub none_given : port.given tap.port ≡ none_yet
+    pub none_taken : port.taken tap.port ≡ none_yet
+    pub same_store : host.store tap.port ≡ host.store before
