@@ -79,7 +79,7 @@ impl<P: Plot> CellTable<P> {
             return Err(word);
         }
         let slot = self.table.shared.exchange(seat, cell as usize, None);
-        self.table.shared.load::<Lay<P>>(seat, 0);
+        self.table.shared.load::<Lay<P>>(seat, cell as usize + 1);
         Ok(Taken {
             word,
             value: slot.unwrap(),

@@ -19,14 +19,16 @@ pub fn add_rounds(rounds: u64) -> u64 {
     word.load(Ordering::SeqCst)
 }
 
-// Adds 1 to a word that other threads add to, between adds to a word of its own: the atomic steps of
-// a turn, without the turn.
+// Adds 1 to a word that other threads add to, between adds to a word of its own: a round of about
+// the length of a turn's, with its stamp and without the turn.
 fn add_to(word: &AtomicU64, rounds: u64) {
     let own = AtomicU64::new(0);
     for _ in 0..rounds {
+        own.fetch_add(2, Ordering::SeqCst);
         own.fetch_add(1, Ordering::SeqCst);
         word.fetch_add(1, Ordering::SeqCst);
-        own.fetch_add(1, Ordering::SeqCst);
+        own.fetch_sub(1, Ordering::SeqCst);
+        own.fetch_sub(2, Ordering::SeqCst);
     }
 }
 
@@ -35,8 +37,8 @@ fn add_in_two<R: Threads>(rt: &R, word: &AtomicU64, rounds: u64) {
     join(rt, || add_to(word, rounds), || add_to(word, rounds));
 }
 
-/// Adds 1 to one atomic word in each round of four threads, between two adds to a word of the
-/// thread's own, and answers the word at the end.
+/// Adds 1 to one atomic word in each round of four threads, between adds to a word of the thread's
+/// own, and answers the word at the end.
 pub fn add_shared<R: Threads + Sync>(rt: &R, rounds: u64) -> u64 {
     let word = AtomicU64::new(0);
     join(
