@@ -37,7 +37,7 @@ pub fn read<S: Sealer, P: HostPort, R: Wait>(
     ensures refused { OnErr result (buf.new ≡ buf.old) }
 {
     let Some(cell) = begin(m, pass, tap, at, buf.len()) else {
-        refuse_read(m, pass, at, buf.len());
+        refuse_read(m, pass, at, buf.len() as u32);
         return Err(AccessRefused::BadRange);
     };
     let taken = m.take(rt, pass, cell, true);
@@ -59,7 +59,7 @@ pub fn try_read<S: Sealer, P: HostPort>(
     ensures refused { OnErr result (buf.new ≡ buf.old) }
 {
     let Some(cell) = begin(m, pass, tap, at, buf.len()) else {
-        refuse_read(m, pass, at, buf.len());
+        refuse_read(m, pass, at, buf.len() as u32);
         return Err(TryRefused::Access(AccessRefused::BadRange));
     };
     let taken = match m.try_take(pass, cell, true) {
@@ -72,18 +72,14 @@ pub fn try_read<S: Sealer, P: HostPort>(
     }
 }
 
-/// Stamps a read of so many bytes that is out of range.
-fn refuse_read<S: Sealer>(m: &Machine<S>, pass: &mut Pass, at: Addr, len: usize)
+/// Stamps the refusal of a read of so many bytes that is out of range. It has no buffer, so the read
+/// may be longer than any.
+pub fn refuse_read<S: Sealer>(m: &Machine<S>, pass: &mut Pass, at: Addr, len: u32)
     requires can { CanCall m.now pass.old }
-    requires buffer { len < 2 ^ 32 }
     requires outside { IsOutside (plan_at m.now) pass.old.hand.number at len }
     ensures { Enters pass.old (access_stamp pass.old (calls.Read at len) [] replies.BadRange) pass.new }
 {
-    let op = OpRef::Read {
-        at,
-        len: len as u32,
-    };
-    pass.set(EventRef::Op(op), ReplyRef::BadRange);
+    pass.set(EventRef::Op(OpRef::Read { at, len }), ReplyRef::BadRange);
     m.stamp(pass);
 }
 

@@ -1,5 +1,5 @@
 -- A made core's cells, one behind the other in the order of their numbers, are the machine's cells before the first event.
-use Rattle.std.proofs.Common.{◌≡◌, ◌≢◌, ℕ, ◌+◌, ◌-◌, ◌<◌, ◌≤◌, ◌==◌, List, [], ◌∷◌, ◌++◌, length, map, Bool, true, false, nat_lt, Some, None, refl, sym, ◌∙◌, ap, subst, arith, get_or, if◌then◌else◌}
+use Rattle.std.proofs.Common.{◌≡◌, ◌≢◌, ℕ, ◌+◌, ◌-◌, ◌<◌, ◌≤◌, ◌==◌, List, [], ◌++◌, length, map, true, false, nat_lt, Some, None, refl, sym, ◌∙◌, ap, subst, arith, get_or, if◌then◌else◌}
 use Rattle.std.proofs.lemmas.Bool.Decides.{nat_tests}
 use Rattle.std.proofs.lemmas.List.{get_or-append_right, get_or-map, get_or_append_left, get_or_past, length-append, length-map}
 use Rattle.eleos_base.specs.declared.memory.Live.{Live}

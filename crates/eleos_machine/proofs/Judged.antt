@@ -1,5 +1,5 @@
 -- A plan has no bad field exactly where a machine can be made of it.
-use Rattle.std.proofs.Common.{◌≡◌, ◌⊎◌, ⊎_elim, inl, inr, ℕ, ◌+◌, ◌^◌, ◌<◌, ◌≤◌, List, [], ◌∷◌, ◌++◌, length, take, drop, Bool, true, false, ◌==◌, ◌&&◌, ◌||◌, ◌↔◌, All, nat_le, nat_lt, Option, Some, None, IsNone, is_some, refl, sym, ◌∙◌, ap, subst, arith, get_or, if◌then◌else◌}
+use Rattle.std.proofs.Common.{◌≡◌, ◌⊎◌, ⊎_elim, inl, inr, ℕ, ◌+◌, ◌<◌, ◌≤◌, List, [], ◌∷◌, ◌++◌, length, take, drop, Bool, true, false, ◌==◌, ◌&&◌, ◌||◌, ◌↔◌, All, nat_le, nat_lt, Option, Some, None, IsNone, is_some, refl, sym, ◌∙◌, ap, arith, get_or, if◌then◌else◌}
 use Rattle.std.specs.List.{AllByRecursion, list_all}
 use Rattle.std.proofs.lemmas.Bool.Decides.{nat_tests}
 use Rattle.std.proofs.lemmas.List.{drop_more, take_more}
@@ -7,8 +7,7 @@ use Rattle.std.proofs.lemmas.List.Elements.{All-cons, All-head, All-more, All-ta
 use Rattle.eleos_base.specs.declared.plan.BlockPlan.{BlockPlan}
 use Rattle.eleos_base.specs.declared.plan.EnclavePlan.{EnclavePlan}
 use Rattle.eleos_base.specs.declared.plan.Plan.{Plan}
-use Rattle.eleos_base.specs.Plain.{is_good_size}
-use Rattle.eleos_base.specs.Plans.{AreGoodPages, IsCaller, IsGood, IsGoodBlock, enclave_of}
+use Rattle.eleos_base.specs.Plans.{AreGoodPages, IsCaller, IsGoodBlock, enclave_of}
 use Rattle.eleos_core.proofs.Tests.{by_test}
 use Rattle.eleos_machine.specs.declared.judging.PlanField.{PlanField}
 use Rattle.eleos_machine.specs.declared.judging.PlanField.TheVariants.{Enclaves, Pages, Frames, Callers, Wear, Blocks}

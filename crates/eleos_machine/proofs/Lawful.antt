@@ -1,14 +1,12 @@
 -- What a pass has seen is a legal history of its machine, so its calls can be told in the machine's words.
-use Rattle.std.proofs.Common.{◌≡◌, Result, Ok, Err, IfOk, IfErr, ℕ, zero, suc, ◌+◌, ◌<◌, List, [], ◌∷◌, ◌++◌, map, length, refl, sym, ◌∙◌, ap, subst, arith, length-append}
+use Rattle.std.proofs.Common.{◌≡◌, Result, Ok, Err, IfOk, IfErr, ℕ, zero, suc, ◌+◌, ◌<◌, List, [], ◌∷◌, ◌++◌, length, refl, sym, ◌∙◌, ap, subst, arith}
 use Rattle.eleos_base.specs.declared.plot.Event.{Event}
-use Rattle.eleos_base.specs.Histories.{put}
 use Rattle.eleos_base.specs.Ties.{Has}
 use Rattle.eleos_core.specs.Legal.{CoreRun, CoreStep}
-use Rattle.eleos_core.specs.Parts.{MayStep, Part, Stamp, after_at, cell_of, foot}
+use Rattle.eleos_core.specs.Parts.{MayStep, Part, Stamp, after_at, cell_of}
 use Rattle.eleos_core.specs.State.{History}
 use Rattle.eleos_plot.specs.declared.cell.Cell.{Cell}
 use Rattle.eleos_plot.specs.declared.plot.Ground.{Ground}
-use Rattle.eleos_plot.specs.Cells.{part_of_cell}
 use Rattle.eleos_plot.specs.Histories.{IsKept, history_after, history_of, kept_by}
 use Rattle.eleos_plot.specs.Terms.{core_terms}
 use Rattle.eleos_plot.specs.Fits.{Fits}
@@ -20,7 +18,7 @@ use Rattle.eleos_turn.specs.Hands.{CanStamp, HandState, IsSound, Stamped, Took, 
 use Rattle.eleos_turn.proofs.Clients.{goes_stamped, goes_took, stamped_else, stamped_part, took_part}
 use Rattle.eleos_machine.specs.Machines.{IsMachine, Site}
 use Rattle.eleos_machine.specs.Passes.{IsLawful, PassState, TookTurn, part_seen, plan_of, seals_of, seen}
-use Rattle.eleos_machine.specs.Stamping.{HasStamped, MayStamp, kept, kept_of}
+use Rattle.eleos_machine.specs.Stamping.{HasStamped, MayStamp, kept_of}
 
 -- what holds of each pass
 pub lawful : (s : PassState) → IsMachine s.hand.home → IsSound core_terms s.hand → IsLawful s

@@ -1,6 +1,7 @@
 mod Rooms
 mod Lawful
 mod Listed
+mod Stamps
 mod CellsInOrder
 mod Judged
 mod Wholes

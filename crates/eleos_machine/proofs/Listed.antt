@@ -1,5 +1,5 @@
 -- What holds of each item of a list holds of the one that a loop comes to.
-use Rattle.std.proofs.Common.{◌≡◌, ℕ, zero, suc, ◌+◌, List, [], ◌∷◌, ◌++◌, map, refl, sym, ap, ◌∙◌, subst}
+use Rattle.std.proofs.Common.{◌≡◌, ℕ, zero, suc, ◌+◌, List, [], ◌∷◌, ◌++◌, map, refl, ap, subst}
 use Rattle.std.specs.List.{AllByRecursion}
 use Rattle.eleos_core.specs.Parts.{Part, Stamp}
 use Rattle.eleos_plot.specs.declared.plot.Ground.{Ground}

@@ -1,5 +1,5 @@
 -- A refused alloc may always be stamped: it touches no cell.
-use Rattle.std.proofs.Common.{◌≡◌, ℕ, ◌<◌, [], refl}
+use Rattle.std.proofs.Common.{◌<◌, [], refl}
 use Rattle.eleos_base.specs.declared.memory.Op.TheVariants.{Alloc}
 use Rattle.eleos_base.specs.declared.memory.Reply.TheVariants.{BadSize}
 use Rattle.eleos_base.specs.Plans.{IsCaller}

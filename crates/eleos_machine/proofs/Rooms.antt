@@ -1,5 +1,5 @@
 -- Header blocks stand one behind the other, so that what is free is behind them.
-use Rattle.std.proofs.Common.{◌≡◌, ℕ, zero, suc, ◌+◌, ◌-◌, ◌<◌, ◌≤◌, List, [], ◌∷◌, length, Some, None, Bool, true, false, refl, ◌∙◌, ap, cond, nat_le, nat_lt, ◌==◌, ◌&&◌, arith, get_or, map, is_some}
+use Rattle.std.proofs.Common.{◌≡◌, ℕ, zero, suc, ◌+◌, ◌-◌, ◌<◌, ◌≤◌, List, [], ◌∷◌, length, Some, None, Bool, true, false, refl, ◌∙◌, ap, cond, nat_le, nat_lt, ◌==◌, ◌&&◌, arith, get_or, is_some}
 use Rattle.std.proofs.Math.ListN.{length-replicate}
 use Rattle.std.specs.List.{list_all, filter, fold}
 use Rattle.std.specs.Prelude.{All}

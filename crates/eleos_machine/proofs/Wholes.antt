@@ -1,13 +1,12 @@
 -- Passes with no fault are all passes of the machine, and none has a turn or a link.
-use Rattle.std.proofs.Common.{◌≡◌, ◌⊎◌, inl, inr, ℕ, zero, suc, ◌+◌, ◌-◌, ◌<◌, ◌≤◌, ◌==◌, ◌&&◌, ◌||◌, List, [], ◌∷◌, length, map, Bool, true, false, not, Option, Some, None, option_map, cond, if◌then◌else◌, refl, sym, ◌∙◌, ap, subst, arith, get_or}
-use Rattle.std.specs.List.{find, list_all, list_any, range_with_len}
+use Rattle.std.proofs.Common.{◌≡◌, inl, inr, ℕ, zero, suc, ◌+◌, ◌-◌, ◌<◌, ◌≤◌, ◌==◌, ◌&&◌, ◌||◌, List, [], ◌∷◌, length, Bool, true, false, not, Option, Some, None, option_map, cond, if◌then◌else◌, refl, ◌∙◌, ap, arith}
+use Rattle.std.specs.List.{find, list_all, range_with_len}
 use Rattle.std.proofs.lemmas.Bool.Decides.{nat_tests}
 use Rattle.std.proofs.lemmas.List.{length-map}
-use Rattle.eleos_core.specs.Parts.{Part, Stamp}
-use Rattle.eleos_plot.specs.declared.plot.Ground.{Ground}
+use Rattle.eleos_core.specs.Parts.{Stamp}
 use Rattle.eleos_plot.specs.Terms.{core_terms}
-use Rattle.eleos_turn.specs.Closings.{AllDone, AllOf, HasNumber, IsDone, IsWhole}
-use Rattle.eleos_turn.specs.Hands.{HandState, links}
+use Rattle.eleos_turn.specs.Closings.{AllDone, AllOf, HasNumber, IsWhole}
+use Rattle.eleos_turn.specs.Hands.{links}
 use Rattle.eleos_core.proofs.Tests.{by_test}
 use Rattle.eleos_machine.specs.declared.closing.CloseWhy.{CloseWhy}
 use Rattle.eleos_machine.specs.declared.closing.CloseWhy.TheVariants.{Missing, Foreign, Linked, Held}

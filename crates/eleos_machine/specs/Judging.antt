@@ -1,5 +1,5 @@
 -- Which plans a machine can be made of, and which field is the first bad one of any other plan.
-use Rattle.std.specs.Prelude.{◌≡◌, ℕ, ◌+◌, ◌^◌, ◌≤◌, List, [], ◌∷◌, ◌++◌, length, Bool, true, false, ◌==◌, ◌&&◌, ◌||◌, nat_le, nat_lt, is_some, Option, Some, None, sum_by, if◌then◌else◌}
+use Rattle.std.specs.Prelude.{◌≡◌, ℕ, ◌+◌, ◌^◌, ◌≤◌, List, [], ◌∷◌, ◌++◌, length, Bool, true, ◌==◌, ◌&&◌, ◌||◌, nat_le, nat_lt, is_some, Option, Some, None, sum_by, if◌then◌else◌}
 use Rattle.std.specs.List.{list_all}
 use Rattle.eleos_base.specs.declared.plan.BlockPlan.{BlockPlan}
 use Rattle.eleos_base.specs.declared.plan.EnclavePlan.{EnclavePlan}

@@ -1,5 +1,5 @@
 -- What contracts see of a pass, and what holds of each.
-use Rattle.std.specs.Prelude.{◌≡◌, ℕ, []}
+use Rattle.std.specs.Prelude.{◌≡◌, ℕ, List, [], ◌∷◌}
 use Rattle.eleos_base.specs.declared.plan.Plan.{Plan}
 use Rattle.eleos_base.specs.Ties.{Has}
 use Rattle.eleos_core.specs.Parts.{Part, Stamp, cell_of}
@@ -18,6 +18,12 @@ use Rattle.eleos_machine.specs.Machines.{IsMachine, plan_at, seals_at}
 pub record PassState : Type 0 where
   pub hand : HandState Stamp Part Ground
   pub draft : Stamp
+
+-- the number of the last of these entries, each with its stamp, and 0 where there is none
+abbrev pub last_stamp : List (ℕ × Stamp) → ℕ
+last_stamp [] = 0
+last_stamp (one ∷ []) = one.0
+last_stamp (one ∷ other ∷ more) = last_stamp (other ∷ more)
 
 -- the plan and the sealing of its machine
 abbrev pub plan_of : PassState → Plan

@@ -1,16 +1,18 @@
 // A machine is closed, with all its passes.
-ghost use Rattle.std.specs.Prelude.{vec_capacity, ◌≡◌, ◌+◌, ◌<◌, ◌≤◌, [], length, IsOk, IfOk, IfErr, None, Some, IsTrue};
+ghost use Rattle.std.specs.Prelude.{vec_capacity, ◌≡◌, ◌+◌, ◌<◌, ◌≤◌, [], ◌∷◌, ◌++◌, length, IsOk, IfOk, IfErr, None, Some, IsTrue};
 ghost use Rattle.eleos_turn.specs.Closings.{AllOf, IsWhole};
 ghost use Rattle.eleos_plot.specs.Terms.{core_terms};
+ghost use Rattle.eleos_turn.specs.Hands.{entries};
 ghost use Rattle.eleos_machine.specs.Closing.{AllOfMachine, HasClosed, close_fault, first_with, hands_of, has_all};
 ghost use Rattle.eleos_machine.specs.Closing.{has_foreign, has_link, has_number, has_turn};
-ghost use Rattle.eleos_machine.specs.Machines.{IsMachine, all_passes};
+ghost use Rattle.eleos_machine.specs.Machines.{IsMachine, all_passes, plan_at};
+ghost use Rattle.eleos_machine.specs.Passes.{last_stamp};
 
 use crate::machine::Machine;
 use crate::pass::Pass;
 use eleos_base::Sealer;
 use eleos_plot::{CorePlot, Draft};
-use eleos_turn::{Closed, Hand};
+use eleos_turn::{Closed, Hand, Turnstile};
 
 /// Why a machine is not closed.
 #[derive(Clone, Copy, Debug, PartialEq, Eq)]
@@ -56,9 +58,8 @@ impl<S: Sealer + Drop> Machine<S> {
             turnstile,
             plan: _plan,
             sealer: _sealer,
-            hands,
         } = self;
-        let (hands, draft) = parted(hands, passes);
+        let PartedPasses { hands, draft, room } = parted(&turnstile, passes);
         let Ok(
             Closed {
                 hand,
@@ -68,7 +69,12 @@ impl<S: Sealer + Drop> Machine<S> {
         else {
             unreachable!()
         };
-        Ok(Pass { hand, draft })
+        Ok(Pass {
+            hand,
+            draft,
+            last: 0,
+            room,
+        })
     }
 }
 
@@ -133,21 +139,67 @@ fn has_turn(pass: &Pass) -> bool
     pass.hand.turns() != 0
 }
 
-/// The hands of the passes, in the room for them, and the draft of one.
-fn parted(room: Vec<Hand<CorePlot>>, passes: Vec<Pass>) -> (Vec<Hand<CorePlot>>, Draft)
-    requires some { 0 < length passes.items }
+/// The hands of passes, and the room and the draft of one.
+struct PartedPasses {
+    hands: Vec<Hand<CorePlot>>,
+    draft: Draft,
+    room: Vec<Hand<CorePlot>>,
+}
+
+/// The hands of the passes, in the room of the last, and the draft and the room of another.
+fn parted(_turnstile: &Turnstile<CorePlot>, passes: Vec<Pass>) -> PartedPasses
+    requires own { AllOfMachine _turnstile.now passes.items }
+    requires some { 1 < length passes.items }
+    requires all { length passes.items ≤ all_passes (plan_at _turnstile.now) }
+    ensures hands { result.hands.items ≡ hands_of passes.items }
+    ensures empty { result.room.items ≡ [] }
+    ensures room { all_passes (plan_at _turnstile.now) ≤ vec_capacity result.room }
+{
+    let mut passes = passes;
+    let (Some(last), Some(other)) = (passes.pop(), passes.pop()) else {
+        unreachable!()
+    };
+    let Pass {
+        hand: last,
+        draft: _draft,
+        last: _last,
+        room: hands,
+    } = last;
+    let Pass {
+        hand: other,
+        draft,
+        last: _last,
+        room,
+    } = other;
+    let hands = with_hands(hands, passes);
+    let hands = with_hand(hands, other);
+    let hands = with_hand(hands, last);
+    PartedPasses { hands, draft, room }
+}
+
+/// The hands of the passes, in the room for them.
+fn with_hands(room: Vec<Hand<CorePlot>>, passes: Vec<Pass>) -> Vec<Hand<CorePlot>>
     requires empty { room.items ≡ [] }
     requires room { length passes.items ≤ vec_capacity room }
-    ensures { result.0.items ≡ hands_of passes.items }
+    ensures hands { result.items ≡ hands_of passes.items }
+    ensures room { vec_capacity room ≤ vec_capacity result }
 {
     let mut hands = room;
-    let mut last = None;
-    for Pass { hand, draft } in passes {
-        let Ok(()) = hands.push(hand) else {
-            unreachable!()
-        };
-        last = Some(draft);
+    for pass in passes {
+        hands = with_hand(hands, pass.hand);
     }
-    let Some(draft) = last else { unreachable!() };
-    (hands, draft)
+    hands
+}
+
+/// One hand more, for which there is room.
+fn with_hand(hands: Vec<Hand<CorePlot>>, hand: Hand<CorePlot>) -> Vec<Hand<CorePlot>>
+    requires room { length hands.items < vec_capacity hands }
+    ensures hands { result.items ≡ hands.items ++ hand ∷ [] }
+    ensures room { vec_capacity hands ≤ vec_capacity result }
+{
+    let mut hands = hands;
+    let Ok(()) = hands.push(hand) else {
+        unreachable!()
+    };
+    hands
 }

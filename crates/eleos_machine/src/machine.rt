@@ -4,7 +4,7 @@ ghost use Rattle.eleos_machine.specs.Machines.{IsMachine};
 
 use eleos_base::{Plan, Sealer};
 use eleos_plot::CorePlot;
-use eleos_turn::{Hand, Turnstile};
+use eleos_turn::Turnstile;
 use std::marker::Model;
 
 /// A machine whose cells threads share, with its plan and its sealer.
@@ -13,19 +13,17 @@ pub struct Machine<S: Sealer> {
     pub(crate) turnstile: Turnstile<CorePlot>,
     pub(crate) plan: Plan,
     pub(crate) sealer: S,
-    /// Room for the hands of all passes, which `close` takes in.
-    pub(crate) hands: Vec<Hand<CorePlot>>,
 }
 
 impl<S: Sealer> Model for Machine<S> {
-    ghost use Rattle.std.specs.Prelude.{vec_capacity, ◌≡◌, ◌≤◌, []};
-    ghost use Rattle.eleos_machine.specs.Machines.{IsMachine, Site, all_passes};
+    ghost use Rattle.std.specs.Prelude.{◌≡◌};
+    ghost use Rattle.eleos_machine.specs.Machines.{IsMachine, Site};
 
     ghost Value = { Site };
 
     ghost view = { λ a. a.turnstile };
 
-    ghost invariant = { λ a. IsMachine a.turnstile × (a.plan ≡ a.turnstile.base.grounds.plan) × (S.key a.sealer ≡ a.turnstile.base.grounds.key) × (a.hands.items ≡ []) × (all_passes a.plan ≤ vec_capacity a.hands) };
+    ghost invariant = { λ a. IsMachine a.turnstile × (a.plan ≡ a.turnstile.base.grounds.plan) × (S.key a.sealer ≡ a.turnstile.base.grounds.key) };
 }
 
 impl<S: Sealer> Machine<S> {

@@ -1,12 +1,13 @@
 // A machine is made of a plan, with its passes.
 ghost use Rattle.std.specs.Prelude.{vec_capacity, ◌≡◌, ◌↔◌, ◌≤◌, [], Some, Err, IfOk};
-ghost use Rattle.eleos_turn.specs.Closings.{AllOf};
-ghost use Rattle.eleos_turn.specs.Hands.{dealt};
+ghost use Rattle.eleos_plot.specs.Terms.{core_terms};
+ghost use Rattle.eleos_turn.specs.Hands.{dealt, entries};
 ghost use Rattle.eleos_machine.specs.declared.judging.PlanField.{PlanField as Fields};
 ghost use Rattle.eleos_machine.specs.declared.making.MakeRefused.TheVariants as refusals;
 ghost use Rattle.eleos_machine.specs.Closing.{hands_of};
 ghost use Rattle.eleos_machine.specs.Judging.{CanBeMade, plan_fault};
-ghost use Rattle.eleos_machine.specs.Machines.{IsMachine, all_passes};
+ghost use Rattle.eleos_machine.specs.Machines.{IsMachine, all_passes, plan_at};
+ghost use Rattle.eleos_machine.specs.Passes.{last_stamp};
 
 use crate::cells::opening_cells;
 use crate::judging::{PlanField, fault_of};
@@ -71,31 +72,36 @@ fn make_good<S: Sealer + Drop>(
     let count = plan.callers.len() as u32 + 2;
     let cells = opening_cells(alloc, plan)?;
     let (turnstile, hands) = open(alloc, cells, plan, &sealer, count)?;
-    let passes = passes_of(alloc, plan, &turnstile, hands)?;
+    let passes = passes_of(alloc, plan, &turnstile, hands, count)?;
     let machine = Machine {
         turnstile,
         plan: plan.copy(alloc)?,
         sealer,
-        hands: Vec::with_capacity(alloc, count as usize)?,
     };
     Ok((machine, passes))
 }
 
-/// The passes of these hands.
+/// The passes of these hands, each with room for as many.
 fn passes_of(
     alloc: Global,
     plan: &Plan,
     _turnstile: &Turnstile<CorePlot>,
     hands: Vec<Hand<CorePlot>>,
+    count: u32,
 ) -> Result<Vec<Pass>, NoMemory>
     requires machine { IsMachine _turnstile.now }
-    requires own { AllOf _turnstile.now hands.items }
+    requires count { count ≡ all_passes (plan_at _turnstile.now) }
+    requires dealt { hands.items ≡ dealt _turnstile.now 0 count }
     ensures { IfOk result (λ passes. hands_of passes.items ≡ hands.items) }
 {
     let mut passes = Vec::with_capacity(alloc, hands.len())?;
     for hand in hands {
-        let draft = Draft::make(alloc, plan)?;
-        passes.push(Pass { hand, draft })?;
+        passes.push(Pass {
+            hand,
+            draft: Draft::make(alloc, plan)?,
+            last: 0,
+            room: Vec::with_capacity(alloc, count as usize)?,
+        })?;
     }
     Ok(passes)
 }

@@ -1,6 +1,8 @@
 // Passes: what one thread has of a machine.
 ghost use Rattle.std.specs.Prelude.{◌≡◌, []};
-ghost use Rattle.eleos_machine.specs.Passes.{IsLawful};
+ghost use Rattle.eleos_plot.specs.Terms.{core_terms};
+ghost use Rattle.eleos_turn.specs.Hands.{entries};
+ghost use Rattle.eleos_machine.specs.Passes.{IsLawful, last_stamp};
 
 use eleos_plot::{CorePlot, Draft};
 use eleos_turn::{Hand, Refused, RestHand};
@@ -12,17 +14,24 @@ use std::marker::Model;
 pub struct Pass {
     pub(crate) hand: Hand<CorePlot>,
     pub(crate) draft: Draft,
+    /// The place in the history of the entry that it stamped last.
+    pub(crate) last: u64,
+    /// Room for the hands of all passes of its machine, which `close` takes in.
+    pub(crate) room: Vec<Hand<CorePlot>>,
 }
 
 impl Model for Pass {
-    ghost use Rattle.eleos_machine.specs.Machines.{IsMachine};
-    ghost use Rattle.eleos_machine.specs.Passes.{PassState};
+    ghost use Rattle.std.specs.Prelude.{vec_capacity, ◌≡◌, ◌≤◌, []};
+    ghost use Rattle.eleos_plot.specs.Terms.{core_terms};
+    ghost use Rattle.eleos_turn.specs.Hands.{entries};
+    ghost use Rattle.eleos_machine.specs.Machines.{IsMachine, all_passes, plan_at};
+    ghost use Rattle.eleos_machine.specs.Passes.{PassState, last_stamp};
 
     ghost Value = { PassState };
 
     ghost view = { λ p. record { hand = p.hand; draft = p.draft } };
 
-    ghost invariant = { λ p. IsMachine p.hand.home };
+    ghost invariant = { λ p. IsMachine p.hand.home × (p.last ≡ last_stamp (entries core_terms p.hand)) × (p.room.items ≡ []) × (all_passes (plan_at p.hand.home) ≤ vec_capacity p.room) };
 }
 
 /// A pass that has no turn, in a form that can lie in a cell of another turnstile.
@@ -30,17 +39,22 @@ impl Model for Pass {
 pub struct RestPass {
     hand: RestHand<CorePlot>,
     draft: Draft,
+    last: u64,
+    room: Vec<Hand<CorePlot>>,
 }
 
 impl Model for RestPass {
-    ghost use Rattle.eleos_machine.specs.Machines.{IsMachine};
-    ghost use Rattle.eleos_machine.specs.Passes.{PassState};
+    ghost use Rattle.std.specs.Prelude.{vec_capacity, ◌≡◌, ◌≤◌, []};
+    ghost use Rattle.eleos_plot.specs.Terms.{core_terms};
+    ghost use Rattle.eleos_turn.specs.Hands.{entries};
+    ghost use Rattle.eleos_machine.specs.Machines.{IsMachine, all_passes, plan_at};
+    ghost use Rattle.eleos_machine.specs.Passes.{PassState, last_stamp};
 
     ghost Value = { PassState };
 
     ghost view = { λ p. record { hand = p.hand; draft = p.draft } };
 
-    ghost invariant = { λ p. IsMachine p.hand.home };
+    ghost invariant = { λ p. IsMachine p.hand.home × (p.last ≡ last_stamp (entries core_terms p.hand)) × (p.room.items ≡ []) × (all_passes (plan_at p.hand.home) ≤ vec_capacity p.room) };
 }
 
 impl Pass {
@@ -60,6 +74,13 @@ impl Pass {
         self.hand.left()
     }
 
+    /// The place in the history of the entry that it stamped last, 0 where it has stamped none.
+    pub fn last_stamp(&self) -> u64
+        ensures { result ≡ last_stamp (entries core_terms self.now.hand) }
+    {
+        self.last
+    }
+
     /// The last try that found a cell busy.
     pub fn refused(&self) -> Refused
         ensures { result ≡ self.now.hand.refused }
@@ -72,10 +93,17 @@ impl Pass {
         requires { self.hand.turns ≡ [] }
         ensures { result ≡ self }
     {
-        let Pass { hand, draft } = self;
+        let Pass {
+            hand,
+            draft,
+            last,
+            room,
+        } = self;
         RestPass {
             hand: hand.rest(),
             draft,
+            last,
+            room,
         }
     }
 }
@@ -85,10 +113,17 @@ impl RestPass {
     pub fn wake(self) -> Pass
         ensures { result ≡ self }
     {
-        let RestPass { hand, draft } = self;
+        let RestPass {
+            hand,
+            draft,
+            last,
+            room,
+        } = self;
         Pass {
             hand: hand.wake(),
             draft,
+            last,
+            room,
         }
     }
 }

@@ -4,8 +4,8 @@ ghost use Rattle.eleos_turn.specs.Hands.{dealt, fresh};
 ghost use Rattle.eleos_machine.specs.Closing.{hands_of};
 ghost use Rattle.eleos_machine.specs.Machines.{plan_at};
 
-use crate::{CloseRefused, CloseWhy, Machine, Pass, PlanField, fault_of};
-use eleos_base::{BlockPlan, EnclavePlan, List, Plan};
+use crate::{CloseRefused, CloseWhy, Machine, Pass, PlanField, RestPass, fault_of};
+use eleos_base::{BlockPlan, EnclavePlan, List, Plan, Sealer};
 use eleos_gcm::Gcm;
 use eleos_plot::{EventRef, OpRef, ReplyRef};
 use std::alloc::{AllocError, Global};
@@ -79,11 +79,23 @@ fn a_caller_stamps_a_refused_alloc(rt: HostRuntime) -> Result<(), Fail> {
     let Ok((machine, passes)) = Machine::make(alloc, &plan, sealer) else {
         return Err("machine".into());
     };
+    can_be_shared(&machine);
     let Some((caller, swapper, balloon)) = three_passes(&machine, passes) else {
         return Err("passes".into());
     };
     stamp_and_close(&rt, alloc, machine, caller, swapper, balloon)
 }
+
+// Threads may share a machine, and each may be given a pass.
+fn can_be_shared<S: Sealer + Sync>(machine: &Machine<S>) {
+    shared(machine);
+    sent::<Pass>();
+    sent::<RestPass>();
+}
+
+fn shared<T: Sync>(_: &T) {}
+
+fn sent<T: Send>() {}
 
 // The passes of a caller, of the swapper and of the balloon.
 fn three_passes(machine: &Machine<Gcm>, passes: Vec<Pass>) -> Option<(Pass, Pass, Pass)>

@@ -115,6 +115,8 @@ impl<S: Sealer> Machine<S> {
         ensures lawful { IsLawful pass.new }
     {
         let _ = pass.left();
-        enter::<CorePlot>(&self.turnstile, &mut pass.hand, &pass.draft)
+        let place = enter::<CorePlot>(&self.turnstile, &mut pass.hand, &pass.draft);
+        pass.last = place;
+        place
     }
 }
