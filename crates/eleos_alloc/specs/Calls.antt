@@ -13,10 +13,10 @@ use Rattle.eleos_plot.specs.Terms.{core_terms}
 use Rattle.eleos_turn.specs.Hands.{Goes}
 use Rattle.eleos_machine.specs.Machines.{Site, plan_at}
 use Rattle.eleos_machine.specs.Passes.{PassState, plan_of, seals_of, seen}
-use Rattle.eleos_alloc.specs.declared.refusals.AllocRefused.{AllocRefused}
-use Rattle.eleos_alloc.specs.declared.refusals.AllocRefused.TheVariants.{BadSize, NoSpace}
-use Rattle.eleos_alloc.specs.declared.refusals.BlockRefused.{BlockRefused}
-use Rattle.eleos_alloc.specs.declared.refusals.BlockRefused.TheVariants.{NotABlock, NotYours}
+use Rattle.eleos_base.specs.declared.refusals.AllocRefused.{AllocRefused}
+use Rattle.eleos_base.specs.declared.refusals.AllocRefused.TheVariants.{BadSize, NoSpace}
+use Rattle.eleos_base.specs.declared.refusals.BlockRefused.{BlockRefused}
+use Rattle.eleos_base.specs.declared.refusals.BlockRefused.TheVariants.{NotABlock, NotYours}
 
 -- the pass is a caller's of this machine, holds no turn, and has a stamp left
 pub record CanCall (z : Site) (s : PassState) : Type 0 where

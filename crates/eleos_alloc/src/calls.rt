@@ -2,6 +2,7 @@
 ghost use Rattle.std.specs.Prelude.{◌≡◌, ◌↔◌, ◌≤◌, Err, false, [], option_map, unwrap_or};
 ghost use Rattle.eleos_base.specs.declared.memory.Live.{Live};
 ghost use Rattle.eleos_base.specs.declared.memory.Op.TheVariants as ops;
+ghost use Rattle.eleos_base.specs.declared.refusals.AllocRefused.TheVariants as refusals;
 ghost use Rattle.eleos_base.specs.Plain.{is_good_size};
 ghost use Rattle.eleos_core.specs.declared.event.Event.TheVariants as events;
 ghost use Rattle.eleos_core.specs.Applying.{stamp_of};
@@ -9,17 +10,16 @@ ghost use Rattle.eleos_core.specs.Parts.{alloc_cell, alloc_part};
 ghost use Rattle.eleos_machine.specs.Machines.{plan_at};
 ghost use Rattle.eleos_machine.specs.Passes.{part_seen};
 ghost use Rattle.eleos_plot.specs.Refs.{reply_bytes, reply_of};
-ghost use Rattle.eleos_alloc.specs.declared.refusals.AllocRefused.TheVariants as refusals;
 ghost use Rattle.eleos_alloc.specs.Calls.{CanCall, HasCalled, alloc_reply, block_reply};
 ghost use Rattle.eleos_alloc.specs.Changes.{call_of};
 ghost use Rattle.eleos_alloc.specs.Stamping.{CanCallWith};
 
 use crate::changes::Change;
 use crate::holding::{stamp_with_pages, take_blocks};
-use crate::refusals::{AllocRefused, BlockRefused, judge};
+use crate::refusals::{judge, reply_to};
 use crate::runs::Run;
-use eleos_base::{Addr, Live, Sealer};
-use eleos_core::{MOST_BYTES, Mark, SUB_BYTES, enclave_of, first_sub, subs_of};
+use eleos_base::{Addr, AllocRefused, BlockRefused, Live, SUB_BYTES, Sealer};
+use eleos_core::{MOST_BYTES, Mark, enclave_of, first_sub, subs_of};
 use eleos_machine::{Machine, Pass};
 use eleos_plot::{BlockList, Cell, EventRef, OpRef, ReplyRef};
 use std::sync::Wait;
@@ -157,7 +157,7 @@ fn change_in<S: Sealer, R: Wait>(
     let block = match judge(found, pass.who()) {
         Ok(block) => block,
         Err(refused) => {
-            draft_change(pass, change, at, refused.reply(), len);
+            draft_change(pass, change, at, reply_to(refused), len);
             m.stamp(pass);
             return Err(refused);
         }

@@ -10,7 +10,6 @@ mod refusals;
 mod runs;
 
 pub use calls::{alloc, free, share};
-pub use refusals::{AllocRefused, BlockRefused};
 
 #[cfg(test)]
 mod tests;

@@ -8,7 +8,8 @@ ghost use Rattle.eleos_plot.specs.Fits.{IsPageCell};
 ghost use Rattle.eleos_alloc.specs.Runs.{Touches};
 
 use crate::runs::Run;
-use eleos_core::{Mark, Page, SUBS_PER_PAGE, mark_sub};
+use eleos_base::SUBS_PER_PAGE;
+use eleos_core::{Mark, Page, mark_sub};
 use eleos_plot::Cell;
 
 /// The cell of the page with this number, with those of its sub-pages marked that lie in the run.

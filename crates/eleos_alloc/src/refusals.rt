@@ -5,37 +5,17 @@ ghost use Rattle.eleos_base.specs.Plain.{block_refusal};
 ghost use Rattle.eleos_plot.specs.Refs.{reply_bytes, reply_of};
 ghost use Rattle.eleos_alloc.specs.Calls.{refusal_reply};
 
-use eleos_base::Live;
+use eleos_base::{BlockRefused, Live};
 use eleos_plot::ReplyRef;
 
-/// Why no block is allocated.
-#[derive(Clone, Copy, Debug, PartialEq, Eq)]
-pub enum AllocRefused {
-    /// The size is not in 1 to 65,536 bytes.
-    BadSize,
-    /// The caller's enclave has no free run of sub-pages that is long enough.
-    NoSpace,
-}
-
-/// Why a block is neither freed nor shared.
-#[derive(Clone, Copy, Debug, PartialEq, Eq)]
-pub enum BlockRefused {
-    /// No live block of the caller's enclave starts at the address.
-    NotABlock,
-    /// The block is another's.
-    NotYours { owner: u32 },
-}
-
-impl BlockRefused {
-    /// The reply of a call that is refused for this.
-    pub(crate) fn reply<'a>(self) -> ReplyRef<'a>
-        ensures reply { reply_of result ≡ refusal_reply self }
-        ensures bytes { reply_bytes result ≡ [] }
-    {
-        match self {
-            BlockRefused::NotABlock => ReplyRef::NotABlock,
-            BlockRefused::NotYours { owner } => ReplyRef::NotYours { owner },
-        }
+/// The refusal as a reply.
+pub(crate) fn reply_to<'a>(refused: BlockRefused) -> ReplyRef<'a>
+    ensures reply { reply_of result ≡ refusal_reply refused }
+    ensures bytes { reply_bytes result ≡ [] }
+{
+    match refused {
+        BlockRefused::NotABlock => ReplyRef::NotABlock,
+        BlockRefused::NotYours { owner } => ReplyRef::NotYours { owner },
     }
 }
 

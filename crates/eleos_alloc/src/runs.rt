@@ -2,7 +2,7 @@
 ghost use Rattle.std.specs.Prelude.{◌≡◌, ◌+◌, ◌-◌, ◌/◌};
 ghost use Rattle.eleos_alloc.specs.Runs.{IsRun};
 
-use eleos_core::SUBS_PER_PAGE;
+use eleos_base::SUBS_PER_PAGE;
 
 /// A run of the machine's sub-pages, of which all are counted from the machine's first.
 #[derive(Clone, Copy, Debug, PartialEq, Eq)]

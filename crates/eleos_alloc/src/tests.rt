@@ -2,8 +2,8 @@ ghost use Rattle.std.specs.Prelude.{◌≡◌, [], length, IfOk, IfSome};
 ghost use Rattle.eleos_turn.specs.Hands.{dealt, fresh};
 ghost use Rattle.eleos_machine.specs.Closing.{hands_of};
 
-use crate::{AllocRefused, BlockRefused, alloc, free, share};
-use eleos_base::{Addr, EnclavePlan, List, Plan};
+use crate::{alloc, free, share};
+use eleos_base::{Addr, AllocRefused, BlockRefused, EnclavePlan, List, Plan};
 use eleos_gcm::Gcm;
 use eleos_machine::{Machine, Pass};
 use std::alloc::{AllocError, Global};

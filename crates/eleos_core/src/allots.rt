@@ -9,10 +9,9 @@ mod marks;
 
 use crate::allots::lists::{lowest_in, owned_in, put_in, share_in, take_from};
 use crate::allots::marks::mark_run;
-use crate::blocks::SUB_BYTES;
 use crate::machine::Core;
-use eleos_base::{Addr, Live, NoMemory, Op, Reply};
-pub use homes::{SUBS_PER_PAGE, enclave_of, first_sub, subs_of};
+use eleos_base::{Addr, Live, NoMemory, Op, Reply, SUB_BYTES};
+pub use homes::{enclave_of, first_sub, subs_of};
 pub use marks::{Mark, mark_sub};
 
 /// Most bytes of a block.

@@ -5,10 +5,7 @@ ghost use Rattle.std.specs.List.{find, position, position_or_len};
 ghost use Rattle.eleos_base.specs.Plain.{lowest_run, with_block, starts_at, shared_at};
 ghost use Rattle.eleos_core.specs.Order.{AreInOrder};
 
-use eleos_base::{Addr, Live, NoMemory};
-
-/// Bytes of a sub-page.
-pub const SUB_BYTES: u32 = 1024;
+use eleos_base::{Addr, Live, NoMemory, SUB_BYTES};
 
 /// The start of the lowest free run of so many of the enclave's sub-pages.
 pub fn lowest_run(blocks: &[Live], subs: u32, len: u32) -> Option<u32>

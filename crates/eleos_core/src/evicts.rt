@@ -15,9 +15,9 @@ mod sealing;
 
 use crate::event::Event;
 use crate::evicts::sealing::leave;
-use crate::frames::{SUBS_PER_PAGE, is_in};
+use crate::frames::is_in;
 use crate::machine::{Core, Put};
-use eleos_base::{List, NoMemory, Part, Sealer};
+use eleos_base::{List, NoMemory, Part, SUBS_PER_PAGE, Sealer};
 use std::alloc::Global;
 
 impl Core {

@@ -12,13 +12,12 @@ ghost use Rattle.eleos_core.specs.Seals.{seals_by};
 
 mod opening;
 
-use crate::blocks::SUB_BYTES;
 use crate::cells::SubPage;
 use crate::event::Block;
 use crate::fills::opening::enter;
 use crate::frames::{home_of, is_free};
 use crate::machine::Core;
-use eleos_base::{Part, Reply, Sealer};
+use eleos_base::{Part, Reply, SUB_BYTES, Sealer};
 pub use opening::{Spoiled, open_subs};
 
 /// What a fill came to, and how many of the given blocks it used: those up to the first that did

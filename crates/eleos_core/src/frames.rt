@@ -10,9 +10,6 @@ use crate::cells::{Frame, Page, Use};
 use eleos_base::Plan;
 use std::mem;
 
-/// Sub-pages of a page.
-pub const SUBS_PER_PAGE: u32 = 4;
-
 /// The enclave of a page.
 pub fn home_of(plan: &Plan, page: u32) -> Option<u16>
     requires { length plan.now.enclaves ≤ 8 }

@@ -18,9 +18,9 @@ mod opening;
 mod sweeps;
 
 pub use accesses::{Spot, is_in_range, spot_of};
-pub use allots::{MOST_BYTES, Mark, SUBS_PER_PAGE, enclave_of, first_sub, mark_sub, subs_of};
+pub use allots::{MOST_BYTES, Mark, enclave_of, first_sub, mark_sub, subs_of};
 pub use applying::Places;
-pub use blocks::{SUB_BYTES, add_block, block_at, lowest_run, remove_at, share_at};
+pub use blocks::{add_block, block_at, lowest_run, remove_at, share_at};
 pub use cells::{Alloc, Clock, Frame, Page, Present, SubPage, Use};
 pub use event::{Block, Entry, Event, Goal, Wanted};
 pub use machine::{ApplyRefused, Core, CoreCells, Effect, Put};

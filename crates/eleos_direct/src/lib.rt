@@ -9,7 +9,6 @@ mod reads;
 mod refusals;
 mod writes;
 
-pub use eleos_pages::AccessRefused;
 pub use reads::{read, refuse_read, try_read};
 pub use refusals::TryRefused;
 pub use writes::{MOST_WRITTEN, try_write, write};

@@ -3,7 +3,7 @@ ghost use Rattle.std.specs.Prelude.{◌≡◌, [], length};
 ghost use Rattle.eleos_pages.specs.Replies.{refusal_reply};
 ghost use Rattle.eleos_plot.specs.Refs.{reply_bytes, reply_of};
 
-use eleos_pages::AccessRefused;
+use eleos_base::AccessRefused;
 use eleos_plot::ReplyRef;
 
 /// Why an access that never waits is refused.

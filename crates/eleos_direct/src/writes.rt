@@ -13,10 +13,10 @@ ghost use Rattle.eleos_pages.specs.Replies.{write_reply};
 use crate::begins::begin;
 use crate::ends::end;
 use crate::refusals::{TryRefused, reply_to};
-use eleos_base::{Addr, Sealer};
+use eleos_base::{AccessRefused, Addr, Sealer};
 use eleos_host::{HostPort, Tap};
 use eleos_machine::{Machine, Pass};
-use eleos_pages::{AccessRefused, Accessed, write_page};
+use eleos_pages::{Accessed, write_page};
 use eleos_plot::{Cell, EventRef, OpRef, ReplyRef};
 use std::sync::Wait;
 

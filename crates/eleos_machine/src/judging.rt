@@ -7,7 +7,7 @@ ghost use Rattle.eleos_machine.specs.Judging.{are_callers_good, are_pages_good, 
 ghost use Rattle.eleos_machine.specs.Judging.{is_block_good, may_own, plan_fault};
 ghost use Rattle.eleos_machine.specs.Rooms.{free_behind};
 
-use eleos_base::{BlockPlan, EnclavePlan, Plan};
+use eleos_base::{BlockPlan, EnclavePlan, PAGE_BYTES, Plan, SUB_BYTES};
 
 /// Enclaves of a machine.
 const MOST_ENCLAVES: usize = 8;
@@ -32,12 +32,6 @@ const MOST_BLOCKS: usize = 256;
 
 /// Bytes of a block.
 const MOST_BLOCK: u32 = 65_536;
-
-/// Bytes of a page.
-const PAGE_BYTES: u32 = 4096;
-
-/// Bytes of a sub-page.
-const SUB_BYTES: u32 = 1024;
 
 /// A field of a plan, in the order in which they are judged.
 #[derive(Clone, Copy, Debug, PartialEq, Eq)]

@@ -2,8 +2,8 @@
 use Rattle.std.specs.Prelude.{ℕ, List, Result, Ok, Err}
 use Rattle.eleos_base.specs.declared.memory.Reply.{Reply}
 use Rattle.eleos_base.specs.declared.memory.Reply.TheVariants as replies
-use Rattle.eleos_pages.specs.declared.refusals.AccessRefused.{AccessRefused}
-use Rattle.eleos_pages.specs.declared.refusals.AccessRefused.TheVariants.{BadRange, Unallocated, NotYours, Worn, Tampered}
+use Rattle.eleos_base.specs.declared.refusals.AccessRefused.{AccessRefused}
+use Rattle.eleos_base.specs.declared.refusals.AccessRefused.TheVariants.{BadRange, Unallocated, NotYours, Worn, Tampered}
 
 -- a refusal
 abbrev pub refusal_reply : AccessRefused → Reply

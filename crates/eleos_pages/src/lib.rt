@@ -7,6 +7,6 @@ mod sealing;
 mod writes;
 
 pub use reads::read_page;
-pub use refusals::{AccessRefused, Accessed};
+pub use refusals::Accessed;
 pub use sealing::{open_sub, seal_sub};
 pub use writes::write_page;

@@ -10,9 +10,9 @@ ghost use Rattle.eleos_pages.specs.Accesses.{IsAccess, ReadsOn};
 ghost use Rattle.eleos_pages.specs.Crossed.{Crosses, IsReady, at_place, came, came_if, spoiled_by};
 ghost use Rattle.eleos_pages.specs.Replies.{read_reply};
 
-use crate::refusals::{AccessRefused, Accessed, use_refusal};
+use crate::refusals::{Accessed, use_refusal};
 use crate::sealing::{SUB_BYTES, open_sub};
-use eleos_base::{Addr, Plan, Sealer};
+use eleos_base::{AccessRefused, Addr, Plan, Sealer};
 use eleos_core::{Page, Spot, spot_of};
 use eleos_host::{HostPort, Tap};
 

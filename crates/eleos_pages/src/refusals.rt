@@ -3,22 +3,7 @@ ghost use Rattle.std.specs.Prelude.{◌≡◌, option_map};
 ghost use Rattle.eleos_base.specs.Plain.{use_refusal};
 ghost use Rattle.eleos_pages.specs.Replies.{refusal_reply};
 
-use eleos_base::Live;
-
-/// Why an access of memory is refused, in the order in which it is judged.
-#[derive(Clone, Copy, Debug, PartialEq, Eq)]
-pub enum AccessRefused {
-    /// It reads or writes nothing, crosses a sub-page's end, or lies outside the caller's enclave.
-    BadRange,
-    /// Its sub-page is in no live block.
-    Unallocated,
-    /// The block is private, and this caller's.
-    NotYours { owner: u32 },
-    /// The sub-page is clean, and was sealed as often as it may be.
-    Worn { sub: u32 },
-    /// The block that came from the host for the sub-page does not pass.
-    Tampered { sub: u32 },
-}
+use eleos_base::{AccessRefused, Live};
 
 /// What an access on a page answers, and whether a block came from the host for it.
 #[derive(Clone, Copy, Debug, PartialEq, Eq)]

@@ -11,9 +11,9 @@ ghost use Rattle.eleos_pages.specs.Accesses.{IsAccess, WritesOn, resealed_block,
 ghost use Rattle.eleos_pages.specs.Crossed.{Crosses, IsReady, at_place, came, came_if, last_of, spoiled_by};
 ghost use Rattle.eleos_pages.specs.Replies.{write_reply};
 
-use crate::refusals::{AccessRefused, Accessed, use_refusal};
+use crate::refusals::{Accessed, use_refusal};
 use crate::sealing::{SUB_BYTES, open_sub, seal_sub};
-use eleos_base::{Addr, Plan, Sealer};
+use eleos_base::{AccessRefused, Addr, Plan, Sealer};
 use eleos_core::{Page, Spot, SubPage, spot_of};
 use eleos_host::{HostPort, Tap};
 

@@ -5,15 +5,9 @@ ghost use Rattle.eleos_trace.specs.Kinds.{IsReplay};
 ghost use Rattle.eleos_top.specs.Scenes.{opening_places, with_headers};
 
 use crate::places::Places;
-use eleos_base::{Addr, NoMemory};
+use eleos_base::{Addr, NoMemory, SUB_BYTES, SUBS_PER_PAGE};
 use eleos_trace::Trace;
 use std::alloc::Global;
-
-/// Bytes of a sub-page.
-const SUB_BYTES: u32 = 1024;
-
-/// Sub-pages of a page.
-const SUBS_PER_PAGE: u32 = 4;
 
 /// The addresses of each caller's names before the first command.
 pub fn opening_places(alloc: Global, trace: &Trace) -> Result<Vec<Places>, NoMemory>

@@ -6,11 +6,8 @@ ghost use Rattle.eleos_core.specs.Runs.{first_of_run};
 ghost use Rattle.eleos_top.specs.Scenes.{untie_of};
 
 use crate::meanings::Meaning;
-use eleos_base::{Addr, Part, Plan};
+use eleos_base::{Addr, PAGE_BYTES, Part, Plan};
 use eleos_core::Event;
-
-/// Bytes of a page.
-const PAGE_BYTES: u32 = 4096;
 
 /// An untie: the address has to lie in its enclave.
 pub fn untie_of(plan: &Plan, who: u32, at: Addr) -> Meaning

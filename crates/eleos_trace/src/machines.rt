@@ -6,13 +6,7 @@ ghost use Rattle.eleos_trace.specs.Machines.{enclave_in, is_caller};
 
 use crate::Actor;
 use crate::fields::number_below;
-use eleos_base::{EnclavePlan, Plan};
-
-/// Bytes of a page.
-pub(crate) const PAGE_BYTES: u32 = 4096;
-
-/// Bytes of a sub-page.
-pub(crate) const SUB_BYTES: u32 = 1024;
+use eleos_base::{EnclavePlan, PAGE_BYTES, Plan, SUB_BYTES};
 
 /// The pages of these enclaves.
 pub(crate) fn pages_of(enclaves: &[EnclavePlan]) -> u32

@@ -4,10 +4,9 @@ ghost use Rattle.eleos_core.specs.Accesses.{AreBlocks, Opens, Reseals, block_pla
 ghost use Rattle.eleos_core.specs.Cells.{part_with, sub_size};
 ghost use Rattle.eleos_core.specs.Seals.{seals_by};
 
-use crate::blocks::SUB_BYTES;
 use crate::cells::SubPage;
 use crate::event::Block;
-use eleos_base::{NoMemory, Sealer};
+use eleos_base::{NoMemory, SUB_BYTES, Sealer};
 use std::alloc::Global;
 
 /// The text of a sub-page of an absent page: zeros where it is blank, else what its block opens to.

@@ -12,11 +12,10 @@ ghost use Rattle.eleos_core.specs.Seals.{seals_by};
 use crate::accesses::openings::{open_text, reseal};
 use crate::accesses::refusals::is_worn;
 use crate::accesses::spots::spot_of;
-use crate::blocks::SUB_BYTES;
 use crate::cells::Page;
 use crate::event::Block;
 use crate::machine::{Effect, Put};
-use eleos_base::{Addr, Bytes, List, NoMemory, Plan, Reply, Sealer};
+use eleos_base::{Addr, Bytes, List, NoMemory, Plan, Reply, SUB_BYTES, Sealer};
 use std::alloc::Global;
 
 /// A read that is not refused, on the cell of its page.

@@ -6,11 +6,7 @@ ghost use Rattle.eleos_core.specs.Accesses.{IsSpot};
 ghost use Rattle.eleos_core.specs.Places.{page_counts, subs};
 ghost use Rattle.eleos_core.specs.Runs.{first_of_run};
 
-use crate::blocks::SUB_BYTES;
-use eleos_base::{Addr, Plan};
-
-/// Sub-pages of a page.
-const SUBS_PER_PAGE: u32 = 4;
+use eleos_base::{Addr, Plan, SUB_BYTES, SUBS_PER_PAGE};
 
 /// Where an address lies.
 #[derive(Clone, Copy, Debug, PartialEq, Eq)]

@@ -4,10 +4,7 @@ ghost use Rattle.eleos_base.specs.Plans.{IsCaller, IsGood, enclave_of};
 ghost use Rattle.eleos_core.specs.Places.{first_sub, page_counts, subs};
 ghost use Rattle.eleos_core.specs.Runs.{first_of_run};
 
-use eleos_base::Plan;
-
-/// Sub-pages of a page.
-pub const SUBS_PER_PAGE: u32 = 4;
+use eleos_base::{Plan, SUBS_PER_PAGE};
 
 /// The caller's enclave.
 pub fn enclave_of(plan: &Plan, who: u32) -> u16

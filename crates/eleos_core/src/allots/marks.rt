@@ -8,10 +8,8 @@ ghost use Rattle.eleos_core.specs.Allots.{run_marked, with_marked};
 ghost use Rattle.eleos_core.specs.Cells.{IsPresent, IsSubPage, part_of_page, part_with};
 ghost use Rattle.eleos_core.specs.declared.cells.page.Present.{Present as AFrame};
 
-use crate::allots::homes::SUBS_PER_PAGE;
-use crate::blocks::SUB_BYTES;
 use crate::cells::{Page, Present, SubPage};
-use eleos_base::Live;
+use eleos_base::{Live, SUB_BYTES, SUBS_PER_PAGE};
 
 /// A change of the sub-pages of a block.
 #[derive(Clone, Copy, Debug, PartialEq, Eq)]

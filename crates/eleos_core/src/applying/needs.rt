@@ -12,9 +12,9 @@ ghost use Rattle.eleos_core.specs.Places.{all_pages};
 use crate::accesses::spot_of;
 use crate::cells::SubPage;
 use crate::event::{Event, Wanted};
-use crate::frames::SUBS_PER_PAGE;
 use crate::machine::Core;
 use crate::sweeps::address_of;
+use eleos_base::SUBS_PER_PAGE;
 use std::marker::Model;
 
 /// The most places that an event takes blocks of: those of a page.

@@ -12,11 +12,10 @@ ghost use Rattle.eleos_core.specs.Parts.{frame_part, page_part, subs_in};
 ghost use Rattle.eleos_core.specs.Seals.{seals_by};
 ghost use Rattle.eleos_core.specs.declared.cells.sub_page.SubPage.{SubPage};
 
-use crate::blocks::SUB_BYTES;
 use crate::cells::{Frame, Page, SubPage, Use};
 use crate::frames::clear;
 use crate::machine::Put;
-use eleos_base::{Bytes, LONGEST_SEALED, NoMemory, Sealer};
+use eleos_base::{Bytes, LONGEST_SEALED, NoMemory, SUB_BYTES, Sealer};
 use std::alloc::Global;
 
 /// A page's sub-pages after it has left its frame, and the blocks for the host.

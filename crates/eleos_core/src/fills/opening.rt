@@ -11,12 +11,11 @@ ghost use Rattle.eleos_core.specs.Fills.{absent_page, fill_stamp, sealed_places}
 ghost use Rattle.eleos_core.specs.Parts.{part_after, the_frame, the_page};
 ghost use Rattle.eleos_core.specs.Seals.{seals_by};
 
-use crate::blocks::SUB_BYTES;
 use crate::cells::{Frame, Page, Present, SubPage, Use};
 use crate::event::Block;
 use crate::fills::Filled;
-use crate::frames::{SUBS_PER_PAGE, clear, lend};
-use eleos_base::{LONGEST_SEALED, Reply, Sealer};
+use crate::frames::{clear, lend};
+use eleos_base::{LONGEST_SEALED, Reply, SUB_BYTES, SUBS_PER_PAGE, Sealer};
 
 /// The place whose block did not pass, and how many blocks were used up to it.
 #[derive(Debug, Drop)]

@@ -9,11 +9,8 @@ ghost use Rattle.eleos_core.specs.Parts.{frame_part};
 ghost use Rattle.eleos_core.specs.Places.{all_frames};
 
 use crate::cells::{Clock, Frame, Use};
-use eleos_base::{NoMemory, Plan};
+use eleos_base::{NoMemory, PAGE_BYTES, Plan};
 use std::alloc::Global;
-
-/// Bytes of a page.
-const PAGE_BYTES: usize = 4096;
 
 /// The frames of each enclave, and those of the pool.
 pub fn make_clocks(alloc: Global, plan: &Plan) -> Result<Vec<Clock>, NoMemory>
@@ -83,7 +80,7 @@ fn free_frame(alloc: Global, owner: Option<u16>) -> Result<Frame, NoMemory>
     Ok(Frame {
         owner,
         used: Use::Free {
-            bytes: zero_bytes(alloc, PAGE_BYTES)?,
+            bytes: zero_bytes(alloc, PAGE_BYTES as usize)?,
         },
     })
 }

@@ -5,10 +5,9 @@ ghost use Rattle.eleos_core.specs.Opening.{opening_lives, with_header};
 ghost use Rattle.eleos_core.specs.Order.{AreInOrder};
 ghost use Rattle.eleos_core.specs.State.{live};
 
-use crate::blocks::{SUB_BYTES, add_block, lowest_run};
+use crate::blocks::{add_block, lowest_run};
 use crate::cells::Alloc;
-use crate::opening::pages::SUBS_PER_PAGE;
-use eleos_base::{BlockPlan, Live, NoMemory, Plan};
+use eleos_base::{BlockPlan, Live, NoMemory, Plan, SUB_BYTES, SUBS_PER_PAGE};
 use std::alloc::Global;
 
 /// The live blocks of each enclave.

@@ -9,11 +9,8 @@ ghost use Rattle.eleos_core.specs.Opening.{pages_among, sub_among};
 ghost use Rattle.eleos_core.specs.Places.{all_pages};
 
 use crate::cells::{Alloc, Page, SubPage};
-use eleos_base::{Live, NoMemory, Plan};
+use eleos_base::{Live, NoMemory, Plan, SUBS_PER_PAGE};
 use std::alloc::Global;
-
-/// Sub-pages of a page.
-pub const SUBS_PER_PAGE: u32 = 4;
 
 /// All pages, absent and blank, where these are the enclaves' live blocks.
 pub fn make_pages(alloc: Global, plan: &Plan, cells: &[Alloc]) -> Result<Vec<Page>, NoMemory>

@@ -14,18 +14,13 @@ ghost use Rattle.eleos_core.specs.Seals.{Seals, seals_by};
 ghost use Rattle.eleos_core.specs.declared.event.Wanted.{Wanted};
 
 use crate::accesses::spot_of;
-use crate::blocks::SUB_BYTES;
 use crate::event::{Block, Goal, Wanted};
 use crate::fills::{Spoiled, open_subs};
-use crate::frames::SUBS_PER_PAGE;
 use crate::machine::Core;
 use crate::sweeps::survey_reply;
 use crate::sweeps::waiting::address_of;
-use eleos_base::{List, Looked, NoMemory, Reply, Sealer};
+use eleos_base::{List, Looked, NoMemory, PAGE_BYTES, Reply, SUB_BYTES, SUBS_PER_PAGE, Sealer};
 use std::alloc::Global;
-
-/// Bytes of a page.
-const PAGE_BYTES: usize = (SUBS_PER_PAGE * SUB_BYTES) as usize;
 
 impl Core {
     /// Refuses what waits for a frame, with what was seen of the frames that its page may take.
@@ -99,5 +94,5 @@ impl Core {
 fn zero_page(alloc: Global) -> Result<Vec<u8>, NoMemory>
     ensures { IfOk result (λ bytes. bytes.items ≡ zeros page_bytes) }
 {
-    Ok(vec![in alloc; 0; PAGE_BYTES]?)
+    Ok(vec![in alloc; 0; PAGE_BYTES as usize]?)
 }

@@ -6,8 +6,7 @@ ghost use Rattle.eleos_trace.specs.Blocks.{has_space, with_blocks};
 ghost use Rattle.eleos_trace.specs.Rooms.{free_behind};
 
 use super::NamedBlock;
-use crate::machines::{PAGE_BYTES, SUB_BYTES};
-use eleos_base::Plan;
+use eleos_base::{PAGE_BYTES, Plan, SUB_BYTES};
 
 /// Whether so many bytes find a free run in the enclave. Header blocks are never freed, so they stand one behind the other from the enclave's start, and all that is free is behind them.
 pub(crate) fn has_space(plan: &Plan, before: &[NamedBlock], enclave: u16, bytes: u32) -> bool

@@ -9,19 +9,19 @@ pub stamp-requires-clause-may : goal.stamp-requires-clause-may
 stamp-requires-clause-may g c =
     may_refuse_at c.args.m.now c.args.enclave c.args.pass.now c.args.blocks.now c.plan-plan.ensures.made c.requires.can c.args.at c.args.change c.block_at-found.result c.len_of-len.result c.who.result
     c.block_at-found.ensures c.len_of-len.ensures c.who.ensures _ (sym c.in-Err.ensures.refused) c.draft_change.new.pass
-    (c.draft_change.ensures ∙ ap (λ (reply : Reply). drafted c.args.pass.now (call_of c.args.change c.args.at) reply c.len_of-len.result) c.reply.ensures.reply)
+    (c.draft_change.ensures ∙ ap (λ (reply : Reply). drafted c.args.pass.now (call_of c.args.change c.args.at) reply c.len_of-len.result) c.reply_to.ensures.reply)
 
 pub returns-in-Err-clause-one : goal.returns-in-Err-clause-one
 returns-in-Err-clause-one g c =
     (refused_at c.args.m.now c.args.enclave c.args.pass.now c.args.blocks.now c.plan-plan.ensures.made c.requires.can c.args.at c.args.change c.block_at-found.result c.len_of-len.result c.who.result
     c.block_at-found.ensures c.len_of-len.ensures c.who.ensures _ (sym c.in-Err.ensures.refused) c.draft_change.new.pass c.stamp.new.pass c.stamp.result
-    (c.draft_change.ensures ∙ ap (λ (reply : Reply). drafted c.args.pass.now (call_of c.args.change c.args.at) reply c.len_of-len.result) c.reply.ensures.reply) c.stamp.ensures.stamped).0
+    (c.draft_change.ensures ∙ ap (λ (reply : Reply). drafted c.args.pass.now (call_of c.args.change c.args.at) reply c.len_of-len.result) c.reply_to.ensures.reply) c.stamp.ensures.stamped).0
 
 pub returns-in-Err-clause-blocks : goal.returns-in-Err-clause-blocks
 returns-in-Err-clause-blocks g c =
     (refused_at c.args.m.now c.args.enclave c.args.pass.now c.args.blocks.now c.plan-plan.ensures.made c.requires.can c.args.at c.args.change c.block_at-found.result c.len_of-len.result c.who.result
     c.block_at-found.ensures c.len_of-len.ensures c.who.ensures _ (sym c.in-Err.ensures.refused) c.draft_change.new.pass c.stamp.new.pass c.stamp.result
-    (c.draft_change.ensures ∙ ap (λ (reply : Reply). drafted c.args.pass.now (call_of c.args.change c.args.at) reply c.len_of-len.result) c.reply.ensures.reply) c.stamp.ensures.stamped).1
+    (c.draft_change.ensures ∙ ap (λ (reply : Reply). drafted c.args.pass.now (call_of c.args.change c.args.at) reply c.len_of-len.result) c.reply_to.ensures.reply) c.stamp.ensures.stamped).1
 
 pub overflow_add-run : goal.overflow_add-run
 overflow_add-run g c =
