@@ -3,3 +3,4 @@ pub mod Calling
 pub mod Changing
 pub mod Marking
 pub mod Outer
+pub mod Complete

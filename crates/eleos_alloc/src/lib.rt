@@ -5,6 +5,7 @@
 mod calls;
 mod changes;
 mod holding;
+pub mod laws;
 mod pages;
 mod refusals;
 mod runs;
