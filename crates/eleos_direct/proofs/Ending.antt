@@ -51,7 +51,7 @@ before_stamp s s' n h law c held =
     ∙ (plot_agrees z.base s.hand.seen machine.opening seen_is).parts c)))
 
 -- the only turn is given back
-only_turn : (c : ℕ) (turns : List ℕ) → turns ≡ c ∷ [] → less_one c turns ≡ []
+pub only_turn : (c : ℕ) (turns : List ℕ) → turns ≡ c ∷ [] → less_one c turns ≡ []
 only_turn c turns is = ap (less_one c) is ∙ ap (λ b. cond b [] (c ∷ [])) (eq-eqb c c refl)
 
 -- a call may be stamped as any entry

@@ -10,3 +10,6 @@ pub use reads::read_page;
 pub use refusals::Accessed;
 pub use sealing::{open_sub, seal_sub};
 pub use writes::write_page;
+
+#[cfg(test)]
+mod tests;
