@@ -187,6 +187,7 @@ trace_here : (header : Header) (lines : List Line) → IsGoodHeader header → A
 trace_here header lines good given = record {
   kind_is = refl;
   good = plan_ok header good;
+  few_blocks = subst (λ (n : ℕ). n ≤ 256) (sym (length-map header.blocks (λ named. named.block))) good.blocks.few;
   room = good.blocks.room;
   key = good.key;
   names = length-map header.blocks (λ named. named.name) ∙ sym (length-map header.blocks (λ named. named.block));

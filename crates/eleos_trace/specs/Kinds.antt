@@ -32,10 +32,11 @@ pub record AreGiven (kind : Kind) (plan : Plan) (lines : List Line) : Type 0 whe
   pub each : All (λ line. MayGiveIn kind plan line.actor line.command) lines
   pub few : length lines ≤ 100000
 
--- a good plan with room for its header blocks, a key of a good length, a name for each block, and commands that the actors may give
+-- a good plan with at most 256 header blocks and room for them, a key of a good length, a name for each block, and commands that the actors may give
 pub record IsTrace (kind : Kind) (trace : Trace) : Type 0 where
   pub kind_is : trace.kind ≡ kind
   pub good : IsGood trace.plan
+  pub few_blocks : length trace.plan.blocks ≤ 256
   pub room : EachFindsRoom trace.plan
   pub key : IsKeyLength (length trace.key)
   pub names : length trace.names ≡ length trace.plan.blocks

@@ -1,0 +1,16 @@
+pub mod Tellings
+pub mod Each
+pub mod HeaderBlocks
+pub mod NameTables
+pub mod Speaking
+pub mod Exchanging
+pub mod Crossing
+pub mod TaskLists
+pub mod JobSteps
+pub mod CallerLists
+pub mod RunPasses
+pub mod Counting
+pub mod Whole
+pub mod LineCounts
+pub mod PlanRooms
+pub mod Rising

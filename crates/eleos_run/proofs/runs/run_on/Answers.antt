@@ -1,0 +1,26 @@
+use Rattle.std.proofs.Common.{[], ◌∷◌, length, ap, arith, length-append}
+use Rattle.eleos_run.proofs.CallerLists.{popped, some_passes}
+use Rattle.eleos_run.proofs.runs.run_on.Goals as goal
+
+pub last_pass-balloon-requires : goal.last_pass-balloon-requires
+last_pass-balloon-requires g c = let long = some_passes c.args.machine (length c.args.trace.now.plan.callers) c.args.passes.items c.requires.passes in omega (arith, long)
+
+pub last_pass-swapper-requires : goal.last_pass-swapper-requires
+last_pass-swapper-requires g c =
+    let long = some_passes c.args.machine (length c.args.trace.now.plan.callers) c.args.passes.items c.requires.passes in
+    let split = ap length c.last_pass-balloon.ensures in let both = length-append c.last_pass-balloon.new.passes.items (c.last_pass-balloon.result ∷ []) in omega (arith, long, split, both)
+
+pub jobs_of-requires-clause-passes : goal.jobs_of-requires-clause-passes
+jobs_of-requires-clause-passes g c κs within =
+    (popped c.args.machine (length c.args.trace.now.plan.callers) c.args.passes.items c.last_pass-balloon.new.passes.items c.last_pass-swapper.new.passes.items c.last_pass-balloon.result c.last_pass-swapper.result
+    c.last_pass-balloon.ensures c.last_pass-swapper.ensures c.requires.passes).0
+
+pub finish-requires-clause-swapper : goal.finish-requires-clause-swapper
+finish-requires-clause-swapper g c =
+    (popped c.args.machine (length c.args.trace.now.plan.callers) c.args.passes.items c.last_pass-balloon.new.passes.items c.last_pass-swapper.new.passes.items c.last_pass-balloon.result c.last_pass-swapper.result
+    c.last_pass-balloon.ensures c.last_pass-swapper.ensures c.requires.passes).1
+
+pub finish-requires-clause-balloon : goal.finish-requires-clause-balloon
+finish-requires-clause-balloon g c =
+    (popped c.args.machine (length c.args.trace.now.plan.callers) c.args.passes.items c.last_pass-balloon.new.passes.items c.last_pass-swapper.new.passes.items c.last_pass-balloon.result c.last_pass-swapper.result
+    c.last_pass-balloon.ensures c.last_pass-swapper.ensures c.requires.passes).2

@@ -1,0 +1,11 @@
+pub mod Names
+pub mod NameTable
+pub mod Calls
+pub mod Lines
+pub mod Steps
+pub mod Exchanges
+pub mod Tasks
+pub mod Jobs
+pub mod Callers
+pub mod Runs
+pub mod Laws

@@ -1,0 +1,46 @@
+-- Tasks of a caller: its commands with their room.
+use Rattle.std.specs.Prelude.{◌≡◌, ℕ, ◌≤◌, List, [], ◌∷◌, length, vec_capacity, IsTrue, Vec}
+use Rattle.std.specs.declared.alloc.Global.{Global}
+use Rattle.eleos_trace.specs.declared.word.Word.{Word}
+use Rattle.eleos_trace.specs.declared.word.Word.TheVariants.{Alloc, Free, Share, Read, Write}
+use Rattle.eleos_run.specs.declared.tasks.Task.{Task}
+use Rattle.eleos_run.specs.NameTable.{Rooms, has_room}
+
+-- a command that callers give in a run: their writes have at most 2,048 bytes
+abbrev pub CanRun : Word → Type 0
+CanRun (Alloc name bytes) = Unit {0}
+CanRun (Free name) = Unit {0}
+CanRun (Share name) = Unit {0}
+CanRun (Read name offset len) = Unit {0}
+CanRun (Write name offset bytes) = length bytes ≤ 2048
+CanRun _ = ⊥
+
+-- an empty room with the bytes of a sub-page
+pub record IsRoom (room : Vec ℕ Global) : Type 0 where
+  pub empty : room.items ≡ []
+  pub bytes : 1024 ≤ vec_capacity room
+
+-- the room is enough for what may be printed behind the command
+abbrev pub IsReadyFor : Word → Vec ℕ Global → Type 0
+IsReadyFor (Read name offset len) room = IsRoom room
+IsReadyFor (Write name offset bytes) room = IsRoom room
+IsReadyFor _ room = Unit {0}
+
+-- the name that an alloc binds has room
+abbrev pub HasName : Rooms → Word → Type 0
+HasName rooms (Alloc name bytes) = IsTrue (has_room rooms name)
+HasName rooms _ = Unit {0}
+
+-- all that a task needs
+pub record IsReady (rooms : Rooms) (task : Task) : Type 0 where
+  pub can : CanRun task.command
+  pub room : IsReadyFor task.command task.room
+  pub name : HasName rooms task.command
+
+abbrev pub AllReady : Rooms → List Task → Type 0
+AllReady rooms [] = Unit {0}
+AllReady rooms (task ∷ tasks) = IsReady rooms task × AllReady rooms tasks
+
+-- each name that had room has room still
+abbrev pub KeepsRooms : Rooms → Rooms → Type 0
+KeepsRooms old new = (text : List ℕ) → IsTrue (has_room old text) → IsTrue (has_room new text)

@@ -1,0 +1,127 @@
+// The program of one caller.
+ghost use Rattle.std.specs.Prelude.{vec_capacity, ◌<◌, length};
+ghost use Rattle.eleos_direct.specs.Entered.{CanCall};
+ghost use Rattle.eleos_run.specs.Exchanges.{Exchanges};
+ghost use Rattle.eleos_run.specs.Jobs.{HasRun, HasStepped, IsReadyJob};
+ghost use Rattle.eleos_run.specs.NameTable.{names_in};
+ghost use Rattle.eleos_run.specs.Steps.{Speaks};
+ghost use Rattle.eleos_run.specs.Tasks.{CanRun, HasName, IsReady, IsReadyFor, KeepsRooms};
+
+use crate::answers::{Spoken, answer_alloc, answer_free, answer_read, answer_share, answer_write};
+use crate::gate::Gate;
+use crate::jobs::Job;
+use crate::names::NameTable;
+use crate::tasks::Task;
+use eleos_base::Sealer;
+use eleos_host::{HostPort, Tap};
+use eleos_machine::{Machine, Pass};
+use eleos_report::LogLine;
+use eleos_trace::{Actor, Word};
+use std::sync::Wait;
+
+/// Does the tasks of a caller, in order.
+pub(crate) fn perform<S: Sealer, P: HostPort, R: Wait, G: Gate>(
+    rt: &R,
+    machine: &Machine<S>,
+    gate: &G,
+    job: &mut Job<P>,
+)
+    requires { IsReadyJob machine.now job.old }
+    ensures { HasRun P.gave P.took machine.now job.old job.new }
+{
+    let mut at = 0;
+    while let Some(task) = job.tasks.pop_front() {
+        gate.reach(job.pass.who(), at);
+        step(rt, machine, job, task);
+        at += 1;
+    }
+    gate.reach(job.pass.who(), at);
+}
+
+/// Does a task, and writes its line.
+fn step<S: Sealer, P: HostPort, R: Wait>(rt: &R, machine: &Machine<S>, job: &mut Job<P>, task: Task)
+    requires can { CanCall machine.now job.old.pass }
+    requires ready { IsReady job.old.names.rooms.entries task }
+    requires room { length job.old.lines.items < vec_capacity job.old.lines }
+    ensures { HasStepped P.gave P.took machine.now task job.old job.new }
+{
+    let Task { command, room } = task;
+    let Spoken { stamp, reply } = answer(
+        rt,
+        machine,
+        &mut job.pass,
+        &mut job.tap,
+        &mut job.names,
+        &command,
+        room,
+    );
+    let line = LogLine::Said {
+        stamp,
+        actor: Actor::Caller(job.pass.who()),
+        command,
+        reply,
+    };
+    let Ok(()) = job.lines.push(line) else {
+        unreachable!()
+    };
+}
+
+/// Gives the command, and tells what stands behind it in its line.
+fn answer<S: Sealer, P: HostPort, R: Wait>(
+    rt: &R,
+    machine: &Machine<S>,
+    pass: &mut Pass,
+    tap: &mut Tap<P>,
+    names: &mut NameTable,
+    command: &Word,
+    room: Vec<u8>,
+) -> Spoken
+    requires can { CanCall machine.now pass.old }
+    requires run { CanRun command.now }
+    requires room { IsReadyFor command.now room }
+    requires name { HasName names.old.rooms.entries command.now }
+    ensures speaks { Speaks command.now result pass.old pass.new
+        (names_in names.old.rooms.entries) (names_in names.new.rooms.entries) }
+    ensures exchanged { Exchanges P.gave P.took machine.now pass.old pass.new }
+    ensures rooms { KeepsRooms names.old.rooms.entries names.new.rooms.entries }
+{
+    match command {
+        Word::Alloc { name, bytes } => answer_alloc(
+            rt,
+            machine,
+            pass,
+            names,
+            name.as_slice(),
+            *bytes,
+        ),
+        Word::Free { name } => answer_free(rt, machine, pass, names, name.as_slice()),
+        Word::Share { name } => answer_share(rt, machine, pass, names, name.as_slice()),
+        Word::Read { name, offset, len } => answer_read(
+            rt,
+            machine,
+            pass,
+            tap,
+            names,
+            name.as_slice(),
+            *offset,
+            *len,
+            room,
+        ),
+        Word::Write {
+            name,
+            offset,
+            bytes,
+        } => answer_write(
+            rt,
+            machine,
+            pass,
+            tap,
+            names,
+            name.as_slice(),
+            *offset,
+            bytes.as_slice(),
+            room,
+        ),
+        _ => unreachable!(),
+    }
+}

@@ -1,0 +1,19 @@
+// The part of a run that one thread works on.
+
+use crate::names::NameTable;
+use crate::tasks::Task;
+use eleos_host::Tap;
+use eleos_machine::Pass;
+use eleos_report::LogLine;
+use std::collections::VecDeque;
+
+/// A caller of a run: its pass, its tap, the addresses of its names, the tasks that it still has,
+/// and the lines that it wrote. All of its room was taken before it starts.
+#[derive(Drop)]
+pub(crate) struct Job<P> {
+    pub pass: Pass,
+    pub tap: Tap<P>,
+    pub names: NameTable,
+    pub tasks: VecDeque<Task>,
+    pub lines: Vec<LogLine>,
+}
