@@ -1,14 +1,23 @@
-//! The program: `eleos replay` and `eleos gcm`.
+//! The program: `eleos replay`, `eleos run` and `eleos gcm`.
 #![tactic(auto)]
 
-use eleos_base::{Status, StdSink, StdSource};
-use eleos_host::ToldHost;
+use eleos_base::{NoMemory, Status, StdSink, StdSource};
+use eleos_host::{SharedHost, ToldHost};
+use eleos_run::Gate;
 use eleos_top::main_top;
+use std::alloc::Global;
 use std::process::ExitCode;
 use std::{env, io};
 
-/// Places of the host: one for each sub-page of the largest machine.
+/// Places of each host: one for each sub-page of the largest machine.
 const PLACES: u32 = 16_384;
+
+/// It lets each caller pass at once.
+struct OpenGate;
+
+impl Gate for OpenGate {
+    fn reach(&self, _who: u32, _command: u32) {}
+}
 
 fn main(rt: HostRuntime) -> io::Result<ExitCode> {
     let alloc = rt.alloc();
@@ -18,12 +27,30 @@ fn main(rt: HostRuntime) -> io::Result<ExitCode> {
     }
     let mut source = StdSource::new(rt.stdin());
     let mut sink = StdSink::new(rt.stdout());
-    let status = match ToldHost::make(alloc, PLACES) {
-        Ok(mut host) => main_top(alloc, &words, &mut source, &mut sink, &mut host),
-        Err(_) => Status::Memory,
+    let status = match hosts(alloc) {
+        Ok((mut told, shared)) => main_top(
+            &rt,
+            alloc,
+            &words,
+            &mut source,
+            &mut sink,
+            &mut told,
+            &&shared,
+            &OpenGate,
+        )
+        .status(),
+        Err(NoMemory) => Status::Memory,
     };
     if status == Status::Usage {
-        eprintln!(rt; "usage: eleos replay|gcm")?;
+        eprintln!(rt; "usage: eleos replay|run|gcm")?;
     }
     Ok(ExitCode::from(status.code()))
+}
+
+/// The host of a replay, and the host of a run.
+fn hosts(alloc: Global) -> Result<(ToldHost, SharedHost), NoMemory> {
+    Ok((
+        ToldHost::make(alloc, PLACES)?,
+        SharedHost::make(alloc, PLACES)?,
+    ))
 }

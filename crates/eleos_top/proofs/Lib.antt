@@ -8,5 +8,7 @@ pub mod Opened
 pub mod Readers
 pub mod Refusing
 pub mod LinesSaid
+pub mod RunTexts
+pub mod Tampering
 pub mod Vectors
 pub mod Within

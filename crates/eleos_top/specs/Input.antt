@@ -1,14 +1,14 @@
--- What an input of a replay spells.
+-- What an input spells.
 use Rattle.std.specs.Prelude.{◌≡◌, ℕ, List, Ok, Err}
-use Rattle.eleos_trace.specs.declared.trace.Kind.TheVariants.{Replay}
+use Rattle.eleos_trace.specs.declared.trace.Kind.{Kind}
 use Rattle.eleos_trace.specs.declared.trace.Trace.{Trace}
 use Rattle.eleos_trace.specs.declared.why.Bad.{Bad}
 use Rattle.eleos_trace.specs.Reading.{trace_of}
 
--- the input spells this trace of kind replay
-abbrev pub TellsTrace : Trace → List ℕ → Type 0
-TellsTrace trace input = trace_of Replay input ≡ Ok trace
+-- the input spells this trace of this kind
+abbrev pub TellsTrace : Kind → Trace → List ℕ → Type 0
+TellsTrace kind trace input = trace_of kind input ≡ Ok trace
 
 -- the first bad line of the input as a trace of that kind, with its first reason
-abbrev pub TellsBad : Bad → List ℕ → Type 0
-TellsBad bad input = trace_of Replay input ≡ Err bad
+abbrev pub TellsBad : Kind → Bad → List ℕ → Type 0
+TellsBad kind bad input = trace_of kind input ≡ Err bad

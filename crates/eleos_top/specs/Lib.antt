@@ -3,8 +3,10 @@ pub mod GcmAnswers
 pub mod GcmVectors
 pub mod Input
 pub mod Log
+pub mod MainEnds
 pub mod Offset
 pub mod Outcome
 pub mod Replays
+pub mod RunEnds
 pub mod Scenes
 pub mod Sessions

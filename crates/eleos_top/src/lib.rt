@@ -11,6 +11,7 @@ mod picking;
 mod places;
 mod replaying;
 mod replies;
+mod running;
 mod said;
 mod scenes;
 mod sessions;
@@ -21,8 +22,9 @@ mod unties;
 mod words;
 
 pub use gcm::gcm_top;
-pub use picking::main_top;
+pub use picking::{MainEnd, main_top};
 pub use replaying::replay_top;
+pub use running::{RunEnd, run_top};
 
 #[cfg(test)]
 mod tests;

@@ -16,7 +16,7 @@ use crate::top::{is_only, refuse};
 use eleos_base::{NoMemory, Sink, Source, Status};
 use eleos_core::laws::calls_run_plain;
 use eleos_host::{HostHand, HostPort};
-use eleos_trace::Trace;
+use eleos_trace::{Kind, Trace};
 use std::alloc::Global;
 
 /// Replays a trace over a host: reads it, answers its commands and puts the log.
@@ -45,7 +45,7 @@ pub fn replay_top<S: Source, K: Sink, P: HostPort + HostHand>(
     if !is_only(words, "replay") {
         return Status::Usage;
     }
-    let trace = match trace_in(alloc, source) {
+    let trace = match trace_in(alloc, Kind::Replay, source) {
         Ok(trace) => trace,
         Err(InputError::Refused { bad }) => return refuse(alloc, sink, bad),
         Err(InputError::Failed) => return Status::ReadFault,

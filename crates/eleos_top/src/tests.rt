@@ -3,14 +3,18 @@
 use crate::{gcm_top, main_top, replay_top};
 use cases::CASES;
 use eleos_base::{ListSink, ListSource, Status};
-use eleos_host::ToldHost;
+use eleos_host::{SharedHost, ToldHost};
+use eleos_run::Gate;
 use std::alloc::Global;
+use std::sync::Wait;
 use std::test::Fail;
+use std::thread::Threads;
 use vectors::VECTORS;
 
 mod cases;
 mod lines;
 mod refusals;
+mod runs;
 mod vectors;
 
 /// Places of the host: one for each sub-page of the largest machine.
@@ -70,7 +74,19 @@ fn host(alloc: Global) -> Result<ToldHost, Fail> {
     ToldHost::make(alloc, PLACES).map_err(|_| "no memory".into())
 }
 
-/// Runs the top call on an input, where some takes and puts fail: its status, and what it put.
+/// A host for callers in threads.
+fn shared_host(alloc: Global) -> Result<SharedHost, Fail> {
+    SharedHost::make(alloc, PLACES).map_err(|_| "no memory".into())
+}
+
+/// It lets each caller pass at once.
+struct OpenGate;
+
+impl Gate for OpenGate {
+    fn reach(&self, _who: u32, _command: u32) {}
+}
+
+/// Replays an input, where some takes and puts fail: its status, and what it put.
 fn replayed(
     alloc: Global,
     word: &str,
@@ -87,9 +103,23 @@ fn replayed(
     Ok((status, put.to_string(alloc)?))
 }
 
-/// Runs the program's call on an input: its status, and what it put.
-fn called(
+/// Makes the program's call on an input: its status, and what it put.
+fn called<R: Threads + Wait + Sync>(
+    rt: &R,
     alloc: Global,
+    word: &str,
+    input: &str,
+    takes: Vec<u64>,
+    puts: Vec<u64>,
+) -> Result<(Status, String), Fail> {
+    called_through(rt, alloc, &OpenGate, word, input, takes, puts)
+}
+
+/// The same with a gate before each command of a run.
+fn called_through<R: Threads + Wait + Sync, G: Gate + Sync>(
+    rt: &R,
+    alloc: Global,
+    gate: &G,
     word: &str,
     input: &str,
     takes: Vec<u64>,
@@ -98,10 +128,20 @@ fn called(
     let words = vec![in alloc; word.to_string(alloc)?]?;
     let mut source = ListSource::new(input.as_bytes().to_vec(alloc)?, takes);
     let mut sink = ListSink::new(alloc, puts);
-    let mut host = host(alloc)?;
-    let status = main_top(alloc, &words, &mut source, &mut sink, &mut host);
+    let mut told = host(alloc)?;
+    let shared = shared_host(alloc)?;
+    let end = main_top(
+        rt,
+        alloc,
+        &words,
+        &mut source,
+        &mut sink,
+        &mut told,
+        &&shared,
+        gate,
+    );
     let put = std::str::from_utf8(sink.bytes()).map_err(|_| "no text")?;
-    Ok((status, put.to_string(alloc)?))
+    Ok((end.status(), put.to_string(alloc)?))
 }
 
 #[test]
@@ -171,10 +211,24 @@ fn other_words_put_nothing(rt: HostRuntime) -> Result<(), Fail> {
 #[test]
 fn the_first_word_picks_the_call(rt: HostRuntime) -> Result<(), Fail> {
     let alloc = rt.alloc();
-    let (status, put) = called(alloc, "replay", VECTORS, Vec::new(alloc), Vec::new(alloc))?;
+    let (status, put) = called(
+        &rt,
+        alloc,
+        "replay",
+        VECTORS,
+        Vec::new(alloc),
+        Vec::new(alloc),
+    )?;
     assert_eq!(rt; status, Status::Refused);
     assert_eq!(rt; put.as_str(), "refused 1 form\n");
-    let (status, put) = called(alloc, "seal", VECTORS, Vec::new(alloc), Vec::new(alloc))?;
+    let (status, put) = called(
+        &rt,
+        alloc,
+        "seal",
+        VECTORS,
+        Vec::new(alloc),
+        Vec::new(alloc),
+    )?;
     assert_eq!(rt; status, Status::Usage);
     assert_eq!(rt; put.as_str(), "");
     let words = vec![in alloc; "gcm".to_string(alloc)?, "fast".to_string(alloc)?]?;

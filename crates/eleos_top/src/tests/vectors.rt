@@ -14,10 +14,10 @@ const ANSWERS: &str =
 #[test]
 fn answers_the_vectors(rt: HostRuntime) -> Result<(), Fail> {
     let alloc = rt.alloc();
-    let (status, put) = called(alloc, "gcm", VECTORS, Vec::new(alloc), Vec::new(alloc))?;
+    let (status, put) = called(&rt, alloc, "gcm", VECTORS, Vec::new(alloc), Vec::new(alloc))?;
     assert_eq!(rt; status, Status::Done);
     assert_eq!(rt; put.as_str(), ANSWERS);
-    let (status, put) = called(alloc, "gcm", "end\n", Vec::new(alloc), Vec::new(alloc))?;
+    let (status, put) = called(&rt, alloc, "gcm", "end\n", Vec::new(alloc), Vec::new(alloc))?;
     assert_eq!(rt; status, Status::Done);
     assert_eq!(rt; put.as_str(), "end 0\n");
     Ok(())
@@ -71,7 +71,7 @@ const REFUSED: [(&str, &str); 16] = [
 fn says_where_vectors_are_refused(rt: HostRuntime) -> Result<(), Fail> {
     let alloc = rt.alloc();
     for (input, line) in REFUSED {
-        let (status, put) = called(alloc, "gcm", input, Vec::new(alloc), Vec::new(alloc))?;
+        let (status, put) = called(&rt, alloc, "gcm", input, Vec::new(alloc), Vec::new(alloc))?;
         assert_eq!(rt; status, Status::Refused);
         assert_eq!(rt; put.as_str(), line);
     }
@@ -81,10 +81,24 @@ fn says_where_vectors_are_refused(rt: HostRuntime) -> Result<(), Fail> {
 #[test]
 fn a_refused_put_leaves_the_answers_before_it(rt: HostRuntime) -> Result<(), Fail> {
     let alloc = rt.alloc();
-    let (status, put) = called(alloc, "gcm", VECTORS, Vec::new(alloc), vec![in alloc; 1]?)?;
+    let (status, put) = called(
+        &rt,
+        alloc,
+        "gcm",
+        VECTORS,
+        Vec::new(alloc),
+        vec![in alloc; 1]?,
+    )?;
     assert_eq!(rt; status, Status::WriteFault);
     assert_eq!(rt; put.as_str(), "- 58e2fccefa7e3061367f1d57a4e7455a\n");
-    let (status, put) = called(alloc, "gcm", VECTORS, vec![in alloc; 0]?, Vec::new(alloc))?;
+    let (status, put) = called(
+        &rt,
+        alloc,
+        "gcm",
+        VECTORS,
+        vec![in alloc; 0]?,
+        Vec::new(alloc),
+    )?;
     assert_eq!(rt; status, Status::ReadFault);
     assert_eq!(rt; put.as_str(), "");
     Ok(())
