@@ -1,4 +1,3 @@
 mod Tables
 mod States
 mod KeyWords
-mod FourBlocks

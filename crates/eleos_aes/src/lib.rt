@@ -2,10 +2,6 @@
 #![tactic(auto)]
 
 mod cipher;
-mod sbox;
-mod state;
-#[cfg(test)]
-mod tests;
 mod words;
 
 pub use cipher::{Aes, BadKeyLength};

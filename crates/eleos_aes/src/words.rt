@@ -1,9 +1,30 @@
 // The key expansion.
 ghost use Rattle.std.specs.Prelude.{◌≡◌, ◌+◌, ◌-◌, ◌*◌, ◌/◌, ◌<◌, ◌≤◌, [], ◌∷◌, length, take};
-ghost use Rattle.eleos_base.specs.AesKey.{IsKeyLength, round_constant, word_change, next_word, key_word, word_after, first_words};
+ghost use Rattle.eleos_base.specs.AesKey.{IsKeyLength, round_constant, word_change, next_word, key_word, word_after, first_words, sub_word, xor_word};
 
-use crate::sbox::sub_word;
-use crate::state::{MAX_WORDS, xor_word};
+use eleos_lanes::sub_bytes;
+
+/// How many words the longest key expands to.
+pub(crate) const MAX_WORDS: usize = 60;
+
+/// The sum of two words.
+fn xor_word(v: [u8; 4], w: [u8; 4]) -> [u8; 4]
+    ensures { result ≡ xor_word v w }
+{
+    let [a, b, c, d] = v;
+    let [e, f, g, h] = w;
+    [a ^ e, b ^ f, c ^ g, d ^ h]
+}
+
+/// A word with each byte by the S-box.
+fn sub_word(word: [u8; 4]) -> [u8; 4]
+    ensures { result ≡ sub_word word }
+{
+    let [a, b, c, d] = word;
+    let mut bytes = [a, b, c, d];
+    sub_bytes(&mut bytes);
+    bytes
+}
 
 /// The powers of x in the round constants, from x^0 on.
 const POWERS: [u8; 10] = [0x01, 0x02, 0x04, 0x08, 0x10, 0x20, 0x40, 0x80, 0x1b, 0x36];

@@ -11,7 +11,8 @@ product-power : (h sum n : ℕ) → h < 2 ^ 128 → product (product sum h) (pow
 unfolding power
 product-power h sum n below = product_assoc sum h (power h n) below (power-lt h n below)
 
-horner_is : (h sum : ℕ) (xs : List ℕ) → h < 2 ^ 128 → sum < 2 ^ 128
+-- the hash so far times a power, and the blocks' sum
+pub horner_is : (h sum : ℕ) (xs : List ℕ) → h < 2 ^ 128 → sum < 2 ^ 128
     → horner h sum xs ≡ bit_xor (product sum (power h (length xs))) (sum_of_powers h xs)
 unfolding horner sum_of_powers power
 horner_is h sum [] below fits = sym (xor_zero_r (product sum (power h 0)) ∙ product-one sum fits)

@@ -1,6 +1,5 @@
-mod Masks
-mod XorBytes
 mod Counters
 mod Padding
 mod HornerRule
+mod Fours
 mod HashParts

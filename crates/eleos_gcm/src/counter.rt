@@ -1,11 +1,10 @@
 // Counter mode.
-ghost use Rattle.std.specs.Prelude.{◌≡◌, ◌≤◌, length, bit_xor};
-ghost use Rattle.std.specs.Simd.Lanes.{zip2};
-ghost use Rattle.eleos_base.specs.AesCipher.{aes};
-ghost use Rattle.eleos_base.specs.Gcm.{gctr, inc32, pre_counter, xor_front};
+ghost use Rattle.std.specs.Prelude.{◌≡◌};
+ghost use Rattle.eleos_base.specs.Gcm.{gctr, inc32, pre_counter};
+ghost use Rattle.eleos_gcm.specs.Stream.{later, stream};
 
-use crate::hash::block_count;
 use eleos_aes::Aes;
+use eleos_lanes::xor_into;
 
 /// The pre-counter block of a nonce.
 pub(crate) fn pre_counter(nonce: &[u8; 12]) -> [u8; 16]
@@ -25,35 +24,31 @@ pub(crate) fn inc32(block: &mut [u8; 16])
     block[12..].copy_from_slice(&count.wrapping_add(1).to_be_bytes());
 }
 
-fn xor_into(into: &mut [u8], from: &[u8])
-    requires { length into.old ≡ length from.now }
-    ensures { into.new ≡ zip2 bit_xor into.old from.now }
+/// The next eight encrypted counter blocks.
+fn stream(cipher: &Aes, counter: &mut [u8; 16]) -> [u8; 128]
+    ensures stream { result ≡ stream cipher.now counter.old 8 }
+    ensures counter { counter.new ≡ later 8 counter.old }
 {
-    for i in 0..into.len() {
-        into[i] ^= from[i];
+    let mut counters = [0; 128];
+    for k in 0..8 {
+        counters[16 * k..16 * k + 16].copy_from_slice(counter);
+        inc32(counter);
     }
+    cipher.encrypt_eight(&mut counters);
+    counters
 }
 
-/// Adds the encrypted counter block to a block of text, which may be short.
-fn xor_block(cipher: &Aes, counter: &[u8; 16], part: &mut [u8])
-    requires { length part.old ≤ 16 }
-    ensures { part.new ≡ xor_front part.old (aes cipher.now counter.now) }
-{
-    let mut stream = *counter;
-    cipher.encrypt(&mut stream);
-    let size = part.len();
-    xor_into(part, &stream[..size]);
-}
-
-/// Encrypts or decrypts a text in place.
+/// Encrypts or decrypts a text in place, eight blocks at a time and then what is left.
 pub(crate) fn gctr(cipher: &Aes, first: &[u8; 16], text: &mut [u8])
     ensures { text.new ≡ gctr cipher.now first.now text.old }
 {
     let mut counter = *first;
     let len = text.len();
-    for i in 0..block_count(len) {
-        let end = (16 * i + 16).min(len);
-        xor_block(cipher, &counter, &mut text[16 * i..end]);
-        inc32(&mut counter);
+    let mut at = 0;
+    while at < len {
+        let size = (len - at).min(128);
+        let blocks = stream(cipher, &mut counter);
+        xor_into(&mut text[at..at + size], &blocks[..size]);
+        at += size;
     }
 }

@@ -10,13 +10,14 @@ use crate::field::number_of;
 use crate::hash::hash_for_tag;
 use eleos_aes::{Aes, BadKeyLength};
 use eleos_base::{LONGEST_SEALED, Sealer};
+use eleos_lanes::{Powers, differs};
 use std::marker::Model;
 
 /// GCM under one key, which is expanded once.
 #[derive(Drop)]
 pub struct Gcm {
     cipher: Aes,
-    subkey: u128,
+    powers: Powers,
 }
 
 impl Model for Gcm {
@@ -28,27 +29,22 @@ impl Model for Gcm {
 
     ghost view = { λ g. g.cipher };
 
-    ghost invariant = { λ g. g.subkey ≡ number_of (hash_subkey g.cipher) };
+    ghost invariant = { λ g. g.powers ≡ number_of (hash_subkey g.cipher) };
 }
 
-/// Compares in the same steps wherever the tags differ.
-fn is_same(a: &[u8; 16], b: &[u8; 16]) -> bool
-    ensures { IsTrue result ↔ (a.now ≡ b.now) }
-{
-    let mut difference = 0;
-    'bytes: for i in 0..16 {
-        difference |= a[i] ^ b[i];
-    }
-    difference == 0
-}
-
-fn tag_by(cipher: &Aes, subkey: u128, nonce: &[u8; 12], aad: &[u8], ciphertext: &[u8]) -> [u8; 16]
+fn tag_by(
+    cipher: &Aes,
+    powers: &Powers,
+    nonce: &[u8; 12],
+    aad: &[u8],
+    ciphertext: &[u8],
+) -> [u8; 16]
     requires aad_fits { length aad.now ≤ LONGEST_SEALED }
     requires ciphertext_fits { length ciphertext.now ≤ LONGEST_SEALED }
-    ensures { subkey ≡ number_of (hash_subkey cipher.now)
+    ensures { powers.now ≡ number_of (hash_subkey cipher.now)
         → result ≡ tag_of cipher.now nonce.now aad.now ciphertext.now }
 {
-    let mut tag = hash_for_tag(subkey, aad, ciphertext);
+    let mut tag = hash_for_tag(powers, aad, ciphertext);
     gctr(cipher, &pre_counter(nonce), &mut tag);
     tag
 }
@@ -72,7 +68,7 @@ impl Gcm {
         cipher.encrypt(&mut block);
         Ok(Gcm {
             cipher,
-            subkey: number_of(&block),
+            powers: Powers::of(number_of(&block)),
         })
     }
 }
@@ -82,11 +78,12 @@ impl Sealer for Gcm {
 
     fn seal(&self, nonce: &[u8; 12], aad: &[u8], text: &mut [u8]) -> [u8; 16] {
         apply(&self.cipher, nonce, text);
-        tag_by(&self.cipher, self.subkey, nonce, aad, text)
+        tag_by(&self.cipher, &self.powers, nonce, aad, text)
     }
 
     fn unseal(&self, nonce: &[u8; 12], aad: &[u8], text: &mut [u8], tag: &[u8; 16]) -> bool {
-        if !is_same(&tag_by(&self.cipher, self.subkey, nonce, aad, text), tag) {
+        let expected = tag_by(&self.cipher, &self.powers, nonce, aad, text);
+        if differs(&expected, tag) {
             return false;
         }
         apply(&self.cipher, nonce, text);

@@ -5,8 +5,6 @@ mod counter;
 mod field;
 mod gcm;
 mod hash;
-#[cfg(test)]
-mod tests;
 
 pub use gcm::Gcm;
 pub use hash::ghash;

@@ -1,6 +1,5 @@
-use Rattle.std.proofs.Common.{◌≡◌, ◌-◌, ◌*◌, ◌/◌, min, length, drop, ap, arith, length-drop}
+use Rattle.std.proofs.Common.{◌≡◌, ◌-◌, ◌*◌, ◌/◌, min, length, drop, arith, length-drop}
 use Rattle.std.proofs.lemmas.List.{take_rest}
-use Rattle.eleos_base.specs.BlockField.{number_of}
 use Rattle.eleos_gcm.proofs.Padding.{padded_block}
 use Rattle.eleos_gcm.proofs.hash.block_at.Goals as goal
 
@@ -12,5 +11,4 @@ returns c =
     let size : c.min-size.result ≡ min (length (drop c.args.at bytes)) 16 = rw (take_rest bytes c.args.at) at c.min-size.ensures in
     let width : c.min-size.result ≡ min (length bytes - 16 * i) 16 = omega (arith, size, length-drop c.args.at bytes) in
     let block = padded_block bytes i c.min-size.result (omega arith) width in
-    rw (c.number_of.ensures, c.copy_from_slice.ensures.after, take_rest bytes c.args.at)
-    (ap number_of (rw place at block))
+    rw (c.copy_from_slice.ensures.after, take_rest bytes c.args.at) (rw place at block)

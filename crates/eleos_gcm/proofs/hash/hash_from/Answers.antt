@@ -1,28 +1,43 @@
-use Rattle.std.proofs.Common.{◌≡◌, ◌+◌, ◌-◌, ◌*◌, suc, length, drop, ap, sym, arith}
-use Rattle.std.proofs.lemmas.List.{drop-drop}
-use Rattle.eleos_base.specs.Ghash.{blocks}
-use Rattle.eleos_base.specs.Gcm.{block_count, padded}
-use Rattle.eleos_gcm.specs.Horner.{horner}
+use Rattle.std.proofs.Common.{◌≡◌, ◌+◌, ◌-◌, ◌*◌, ◌/◌, ◌<◌, length, ap, ◌∙◌, arith, inl, inr}
+use Rattle.std.proofs.lemmas.Bool.{cases_lt}
+use Rattle.eleos_base.specs.Gcm.{block_count}
+use Rattle.eleos_gcm.proofs.Fours.{all_hashed, four_hashed, none_hashed, one_hashed}
 use Rattle.eleos_gcm.proofs.hash.hash_from.Goals as goal
 
-pub loop-i-init : goal.loop-i-init
-loop-i-init c =
-    let all : block_count (length c.args.bytes.now) - 0 ≡ block_count (length c.args.bytes.now) = omega arith in
-    ap (λ n. horner c.args.subkey c.args.start (blocks n (padded c.args.bytes.now))) all
+pub fours-init : goal.fours-init
+fours-init c = (none_hashed c.args.powers.now c.args.start c.args.bytes.now, omega arith, (λ some. absurd (omega arith)))
 
-pub loop-i-preserved : goal.loop-i-preserved
-unfolding horner blocks
-loop-i-preserved c =
-    let i = c.loop-i.i in
-    let bytes = padded c.args.bytes.now in
-    let n = block_count (length c.args.bytes.now) in
-    let left : n - i ≡ suc (n - (i + 1)) = omega (arith, c.block_count-i-end.ensures) in
-    let place : 16 * (i + 1) ≡ 16 * i + 16 = omega arith in
-    let next : drop (16 * (i + 1)) bytes ≡ drop 16 (drop (16 * i) bytes) = rw place (sym (drop-drop 16 (16 * i) bytes)) in
-    rw (c.product-sum.ensures, c.block_at.ensures, next) (rw left at c.loop-i.invariant)
+pub fours-preserved : goal.fours-preserved
+fours-preserved c =
+    let below = c.absorb_four-sum.ensures.fits in (
+      four_hashed c.args.powers.now c.args.start c.args.bytes.now c.four_at.result c.fours.sum c.absorb_four-sum.result c.fours.i below
+          c.fours.invariant.1 (omega arith) c.four_at.ensures c.absorb_four-sum.ensures.hash c.fours.invariant.0,
+      omega (arith, c.absorb_four-sum.type_inv),
+      (λ some. below),
+    )
 
-pub returns : goal.returns
-unfolding horner blocks
-returns c =
-    let done : block_count (length c.args.bytes.now) - c.loop-i.i ≡ 0 = omega (arith, c.block_count-i-end.ensures) in
-    rw done at c.loop-i.invariant
+pub others-init : goal.others-init
+others-init c =
+    let bytes = c.args.bytes.now in
+    let done : c.fours.i ≡ length bytes / 64 = omega arith in
+    let hashed = rw done at c.fours.invariant.0 in
+    (hashed, (λ some. c.fours.invariant.2 (omega arith)), (λ some. absurd (omega arith)))
+
+pub others-preserved : goal.others-preserved
+others-preserved c = (
+  one_hashed c.args.powers.now c.args.start c.args.bytes.now c.block_at.result c.others.sum c.absorb-sum.result c.others.i
+      (omega (arith, c.block_count-i-end.ensures)) c.block_at.ensures c.absorb-sum.ensures.hash c.others.invariant.0,
+  (λ some. c.absorb-sum.ensures.fits),
+  (λ some. c.absorb-sum.ensures.fits),
+)
+
+pub returns-clause-fits : goal.returns-clause-fits
+returns-clause-fits c some =
+    let fours = length c.args.bytes.now / 64 in
+    elim (cases_lt 0 fours) [
+      | inl whole ↦ c.others.invariant.1 whole
+      | inr none ↦ c.others.invariant.2 (omega (arith, c.block_count-i-end.ensures))
+    ]
+
+pub returns-clause-hash : goal.returns-clause-hash
+returns-clause-hash c = all_hashed c.args.powers.now c.args.start c.args.bytes.now c.others.sum c.others.i (omega (arith, c.block_count-i-end.ensures)) c.others.invariant.0

@@ -1,10 +1,11 @@
-use Rattle.std.proofs.Common.{◌≡◌, ◌-◌, ◌*◌, drop, length}
-use Rattle.eleos_base.specs.Ghash.{blocks}
-use Rattle.eleos_base.specs.Gcm.{block_count, padded}
-use Rattle.eleos_gcm.specs.Horner.{horner}
+use Rattle.std.proofs.Common.{◌≡◌, ◌*◌, ◌/◌, ◌^◌, ◌<◌, length}
+use Rattle.eleos_gcm.proofs.Fours.{IsHashed}
 use Rattle.eleos_gcm.proofs.hash.hash_from.Given as goal
 
-abbrev pub invariant-loop-i : goal.invariant-loop-i
-invariant-loop-i l =
-    horner l.subkey l.sum (blocks (block_count (length l.bytes) - l.i) (drop (16 * l.i) (padded l.bytes)))
-    ≡ horner l.subkey l.start (blocks (block_count (length l.bytes)) (padded l.bytes))
+abbrev pub invariant-fours : goal.invariant-fours
+invariant-fours l = IsHashed l.powers l.start l.bytes l.sum (4 * l.i) × (l.sum < 2 ^ 128) × (0 < l.i → l.powers < 2 ^ 128)
+
+abbrev pub invariant-others : goal.invariant-others
+invariant-others l =
+    IsHashed l.powers l.start l.bytes l.sum l.i
+    × (0 < length l.bytes / 64 → l.powers < 2 ^ 128) × (4 * (length l.bytes / 64) < l.i → l.powers < 2 ^ 128)

@@ -1,8 +1,11 @@
-use Rattle.std.proofs.Common.{◌∙◌}
-use Rattle.eleos_aes.proofs.KeyWords.{aes_by_words}
+use Rattle.std.proofs.Common.{◌≡◌, ◌*◌, length, take, drop, ap, sym, ◌∙◌, arith}
+use Rattle.std.proofs.lemmas.List.{take_all}
+use Rattle.eleos_base.specs.AesCipher.{aes}
 use Rattle.eleos_aes.proofs.cipher.Aes.encrypt.Goals as goal
 
 pub returns : goal.returns
 returns c =
-    rw (← c.self.view_is)
-    (c.encrypt_by.ensures ∙ aes_by_words c.self.inside.key_words c.self.inside.words c.args.block.now c.self.invariant)
+    let old = c.args.block.now in
+    let new = c.encrypt_front.new.blocks in
+    let long : length new ≡ 16 = omega (arith, c.encrypt_front.auto.blocks) in
+    sym (take_all 16 new (omega arith)) ∙ c.encrypt_front.ensures 0 (omega arith) ∙ ap (aes c.args.self.now) (take_all 16 old (omega arith))

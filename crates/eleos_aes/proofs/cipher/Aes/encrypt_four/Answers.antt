@@ -1,15 +1,8 @@
-use Rattle.std.proofs.Common.{arith, ap, ◌≡◌, ◌+◌, ◌-◌, ◌*◌, length, ◌∙◌}
+use Rattle.std.proofs.Common.{◌≡◌, ◌+◌, ◌*◌, length, take, drop, ap, sym, ◌∙◌, arith}
 use Rattle.eleos_base.specs.AesCipher.{aes}
-use Rattle.eleos_aes.proofs.FourBlocks.{one_more}
+use Rattle.eleos_lanes.proofs.Fronts.{block_range}
 use Rattle.eleos_aes.proofs.cipher.Aes.encrypt_four.Goals as goal
 
-pub loop-i-preserved : goal.loop-i-preserved
-loop-i-preserved c =
-    let f = aes c.args.self.now in
-    let i = c.loop-i.i in
-    let put = c.copy_from_slice-in-loop-i.ensures.after in
-    let size : length c.copy_from_slice-in-loop-i.new.self ≡ 16 = omega (arith, ap length put, c.encrypt.array_long) in
-    let width : 16 * i + 16 - 16 * i ≡ 16 = omega arith in
-    rw width
-    (one_more f _ _ c.copy_from_slice-in-loop-i.new.self i c.loop-i.invariant (omega arith) size
-    (put ∙ c.encrypt.ensures ∙ ap f c.copy_from_slice.ensures.after))
+pub returns : goal.returns
+returns c i low =
+    block_range _ i ∙ c.encrypt_front.ensures i (omega arith) ∙ ap (aes c.args.self.now) (sym (block_range c.args.blocks.now i))

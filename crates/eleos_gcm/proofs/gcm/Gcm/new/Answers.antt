@@ -5,4 +5,4 @@ use Rattle.eleos_gcm.proofs.gcm.Gcm.new.Goals as goal
 
 pub invariant_of-result : goal.invariant_of-result
 unfolding hash_subkey
-invariant_of-result c = c.number_of.ensures ∙ ap number_of c.encrypt.ensures
+invariant_of-result c = c.of.ensures ∙ c.number_of.ensures ∙ ap number_of c.encrypt.ensures

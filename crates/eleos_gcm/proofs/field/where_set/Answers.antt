@@ -1,6 +1,0 @@
-use Rattle.std.proofs.Common.{arith}
-use Rattle.eleos_gcm.proofs.Masks.{masked}
-use Rattle.eleos_gcm.proofs.field.where_set.Goals as goal
-
-pub returns : goal.returns
-returns c = masked c.args.bit c.args.v c.requires (omega arith)
