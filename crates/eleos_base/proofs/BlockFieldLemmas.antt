@@ -4,13 +4,13 @@ use Rattle.std.proofs.lemmas.Nat.{xor_block, xor_comm, xor_lt, xor_shr, xor_mod}
 use Rattle.std.proofs.lemmas.Nat.Bits.{bit_at-lt, bit_at-suc, bit_at_above, bit_at_lowest, bit_at-zero}
 use Rattle.std.specs.Int.{bit_at}
 use Rattle.std.specs.Int.Bits.{xor_assoc, xor_self, xor_zero_r}
-use Rattle.eleos_base.specs.BlockField.{reduction, times_x, where_set, times_bits, product, one, power}
+use Rattle.eleos_base.specs.BlockField.{reduction, times_x, times_power_of_x, where_set, times_bits, product, one, power}
 use Rattle.eleos_base.proofs.Tables.{agree, agree_at}
 
 -- ---- sums
 
 -- four parts of a sum, with the middle two exchanged
-xor_middle : (a b c d : ℕ) → bit_xor (bit_xor a b) (bit_xor c d) ≡ bit_xor (bit_xor a c) (bit_xor b d)
+pub xor_middle : (a b c d : ℕ) → bit_xor (bit_xor a b) (bit_xor c d) ≡ bit_xor (bit_xor a c) (bit_xor b d)
 xor_middle a b c d =
     xor_assoc a b (bit_xor c d)
     ∙ ap (bit_xor a) (sym (xor_assoc b c d) ∙ ap (λ x. bit_xor x d) (xor_comm b c) ∙ xor_assoc c b d)
@@ -39,7 +39,7 @@ bit_at-xor : (a b i : ℕ) → bit_at (bit_xor a b) i ≡ bit_xor (bit_at a i) (
 bit_at-xor a b i = ap (λ x. x % 2) (xor_shr a b i) ∙ xor_mod (a / 2 ^ i) (b / 2 ^ i) 1
 
 -- two functions that keep sums, and agree at the powers of two, agree at each number of n bits
-abbrev KeepsSums : (ℕ → ℕ) → Type 0
+abbrev pub KeepsSums : (ℕ → ℕ) → Type 0
 KeepsSums f = (a b : ℕ) → f (bit_xor a b) ≡ bit_xor (f a) (f b)
 
 split_top : (n s : ℕ) → s < 2 ^ n → bit_xor (2 ^ n) s ≡ 2 ^ n + s
@@ -51,7 +51,7 @@ split_top n s below =
     let sum : bit_xor 1 0 * 2 ^ n + bit_xor 0 s ≡ 2 ^ n + s = omega arith in
     sym (ap₂ bit_xor left right) ∙ whole ∙ sum
 
-same_from_powers : (f g : ℕ → ℕ) → KeepsSums f → KeepsSums g → f 0 ≡ g 0 → (n : ℕ) → ((i : ℕ) → i < n → f (2 ^ i) ≡ g (2 ^ i))
+pub same_from_powers : (f g : ℕ → ℕ) → KeepsSums f → KeepsSums g → f 0 ≡ g 0 → (n : ℕ) → ((i : ℕ) → i < n → f (2 ^ i) ≡ g (2 ^ i))
     → (x : ℕ) → x < 2 ^ n → f x ≡ g x
 same_from_powers f g sum_f sum_g none zero on x below =
     let e : 0 ≡ x = omega arith in
@@ -75,11 +75,11 @@ pub times_x_is : (v : ℕ) → times_x v ≡ bit_xor (v / 2) (where_set (v % 2) 
 unfolding times_x where_set
 times_x_is v = elim (eqb (v % 2) 1) as (λ b. cond b (bit_xor (v / 2) reduction) (v / 2) ≡ bit_xor (v / 2) (cond b reduction 0)) [ true ↦ refl | false ↦ sym (xor_zero_r (v / 2)) ]
 
-times_x-zero : times_x 0 ≡ 0
+pub times_x-zero : times_x 0 ≡ 0
 unfolding times_x
 times_x-zero = refl
 
-times_x-xor : KeepsSums times_x
+pub times_x-xor : KeepsSums times_x
 times_x-xor v w =
     let low : where_set (bit_xor v w % 2) reduction ≡ bit_xor (where_set (v % 2) reduction) (where_set (w % 2) reduction) =
     ap (λ b. where_set b reduction) (xor_mod v w 1) ∙ where_set-xor_bits (v % 2) (w % 2) reduction (omega arith) (omega arith) in
@@ -95,16 +95,11 @@ where_set-lt : (bit v n : ℕ) → v < 2 ^ n → where_set bit v < 2 ^ n
 unfolding where_set
 where_set-lt bit v n below = elim (eqb bit 1) as (λ b. cond b v 0 < 2 ^ n) [ true ↦ below | false ↦ omega arith ]
 
-times_x-lt : (v : ℕ) → v < 2 ^ 128 → times_x v < 2 ^ 128
+pub times_x-lt : (v : ℕ) → v < 2 ^ 128 → times_x v < 2 ^ 128
 times_x-lt v below =
     rw (times_x_is v) (xor_lt 128 (v / 2) (where_set (v % 2) reduction) (omega arith) (where_set-lt (v % 2) reduction 128 reduction-lt))
 
--- v times x^n
-times_power_of_x : ℕ → ℕ → ℕ
-times_power_of_x zero v = v
-times_power_of_x (suc n) v = times_power_of_x n (times_x v)
-
-times_power_of_x-xor : (n : ℕ) → KeepsSums (times_power_of_x n)
+pub times_power_of_x-xor : (n : ℕ) → KeepsSums (times_power_of_x n)
 unfolding times_power_of_x
 times_power_of_x-xor zero v w = refl
 times_power_of_x-xor (suc n) v w = ap (times_power_of_x n) (times_x-xor v w) ∙ times_power_of_x-xor n (times_x v) (times_x w)
@@ -116,7 +111,7 @@ times_x-times_power_of_x (suc n) v = times_x-times_power_of_x n (times_x v)
 
 -- ---- the product
 
-times_bits-xor : (n u : ℕ) → KeepsSums (times_bits n u)
+pub times_bits-xor : (n u : ℕ) → KeepsSums (times_bits n u)
 unfolding times_bits
 times_bits-xor zero u v w = refl
 times_bits-xor (suc n) u v w =
@@ -133,25 +128,25 @@ times_bits-xor_left (suc n) u w v =
     ap₂ bit_xor bit (times_bits-xor_left n u w (times_x v))
     ∙ xor_middle (where_set (bit_at u n) v) (where_set (bit_at w n) v) (times_bits n u (times_x v)) (times_bits n w (times_x v))
 
-times_bits-zero_left : (n v : ℕ) → times_bits n 0 v ≡ 0
+pub times_bits-zero_left : (n v : ℕ) → times_bits n 0 v ≡ 0
 unfolding times_bits where_set
 times_bits-zero_left zero v = refl
 times_bits-zero_left (suc n) v = rw (bit_at-zero n, times_bits-zero_left n (times_x v))
 
-times_bits-zero : (n u : ℕ) → times_bits n u 0 ≡ 0
+pub times_bits-zero : (n u : ℕ) → times_bits n u 0 ≡ 0
 unfolding times_bits
 times_bits-zero zero u = refl
 times_bits-zero (suc n) u =
     ap₂ bit_xor (sym (where_set_at (λ x. 0) (bit_at u n) 0 refl)) (ap (times_bits n u) times_x-zero ∙ times_bits-zero n u)
 
-times_bits-lt : (n u v : ℕ) → v < 2 ^ 128 → times_bits n u v < 2 ^ 128
+pub times_bits-lt : (n u v : ℕ) → v < 2 ^ 128 → times_bits n u v < 2 ^ 128
 unfolding times_bits
 times_bits-lt zero u v below = omega arith
 times_bits-lt (suc n) u v below =
     xor_lt 128 (where_set (bit_at u n) v) (times_bits n u (times_x v)) (where_set-lt (bit_at u n) v 128 below)
     (times_bits-lt n u (times_x v) (times_x-lt v below))
 
-times_bits-times_x : (n u v : ℕ) → times_bits n u (times_x v) ≡ times_x (times_bits n u v)
+pub times_bits-times_x : (n u v : ℕ) → times_bits n u (times_x v) ≡ times_x (times_bits n u v)
 unfolding times_bits
 times_bits-times_x zero u v = sym times_x-zero
 times_bits-times_x (suc n) u v =
@@ -173,7 +168,7 @@ times_bits_half n u v below =
     let none : bit_at (u / 2) n ≡ 0 = sym (bit_at-suc u n) ∙ bit_at_above u (suc n) (suc n) below (omega arith) in
     rw none (times_bits-times_x n (u / 2) v)
 
-times_power_of_x-zero : (n : ℕ) → times_power_of_x n 0 ≡ 0
+pub times_power_of_x-zero : (n : ℕ) → times_power_of_x n 0 ≡ 0
 unfolding times_power_of_x
 times_power_of_x-zero zero = refl
 times_power_of_x-zero (suc n) = ap (times_power_of_x n) times_x-zero ∙ times_power_of_x-zero n

@@ -19,6 +19,11 @@ reduction = 0xe1 * 2 ^ 120
 unfoldable pub times_x : ℕ → ℕ
 times_x v = cond (eqb (v % 2) 1) (bit_xor (v / 2) reduction) (v / 2)
 
+-- v times x^n
+unfoldable pub times_power_of_x : ℕ → ℕ → ℕ
+times_power_of_x zero v = v
+times_power_of_x (suc n) v = times_power_of_x n (times_x v)
+
 -- v where a bit is 1, else 0
 unfoldable pub where_set : ℕ → ℕ → ℕ
 where_set bit v = cond (eqb bit 1) v 0

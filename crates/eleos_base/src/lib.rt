@@ -12,6 +12,7 @@ mod sizes;
 mod status;
 mod streams;
 mod told;
+mod word;
 
 pub use list::{Bytes, List};
 pub use memory::{Addr, Live, Looked, NoMemory, Op, Part, Reply};
@@ -24,3 +25,4 @@ pub use sizes::{PAGE_BYTES, SUB_BYTES, SUBS_PER_PAGE};
 pub use status::Status;
 pub use streams::{StdSink, StdSource};
 pub use told::{FreeSink, FreeSource, ListSink, ListSource};
+pub use word::{BUSY, CellWord, PIN, REF};

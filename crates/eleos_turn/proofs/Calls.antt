@@ -16,6 +16,7 @@ use Rattle.eleos_turn.specs.declared.view.View.{View}
 use Rattle.eleos_turn.specs.declared.view.Key.{Key}
 use Rattle.eleos_turn.specs.Views.{busied, moved, dealing, dealt_from, dealt_to, hand_of}
 use Rattle.eleos_turn.specs.Plays.{Turn, SeatTook}
+use Rattle.eleos_turn.specs.Words.{words_for}
 use Rattle.eleos_turn.specs.Rule.{base_of, IsSized}
 use Rattle.eleos_turn.specs.Numbers.{longer, shorter, most_pins}
 
@@ -69,7 +70,7 @@ all_zero (suc n) zero = refl
 all_zero (suc n) (suc i) = all_zero n i
 
 -- the table that was made has the sizes of its key
-pub sized : {C G : Type 0} (z : TableId) (k k' : Key C G) (items : List C) (n m hands stamps : ℕ) → k ≡ k' → k'.cells.value.items ≡ items → z.words ≡ n → z.slots ≡ m → n ≡ length items + 1 → m ≡ length items → k'.hands ≡ hands → k'.each ≡ stamps
+pub sized : {C G : Type 0} (z : TableId) (k k' : Key C G) (items : List C) (n m hands stamps : ℕ) → k ≡ k' → k'.cells.value.items ≡ items → z.words ≡ n → z.slots ≡ m → n ≡ words_for (length items) → m ≡ length items → k'.hands ≡ hands → k'.each ≡ stamps
     → hands ≤ 16 → stamps ≤ 2 ^ 40 → length items < 2 ^ 31 → IsSized z k
 sized {C} {G} z k k' items n m hands stamps is cells words slots n_is m_is h e few low small = subst (λ (x : Key C G). IsSized z x) (sym is)
     (let count = ap length cells in let most = mul-le-mul few low in let p : k'.hands * k'.each ≡ hands * stamps = (λ i. h i * e i) in

@@ -1,13 +1,16 @@
 -- What callers of the turnstile use.
-use Rattle.std.proofs.Common.{◌≡◌, ◌⊎◌, ⊎_elim, inl, ℕ, ◌<◌, List, [], ◌∷◌, ◌++◌, map, refl, sym, ap, ◌∙◌, subst, arith, append_assoc, append-nil, length-append}
+use Rattle.std.proofs.Common.{◌≡◌, ◌⊎◌, ⊎_elim, inl, ℕ, ◌+◌, ◌<◌, List, [], ◌∷◌, ◌++◌, map, refl, sym, ap, ◌∙◌, subst, arith, append_assoc, append-nil, length-append}
 use Rattle.eleos_base.specs.declared.plot.Event.{Event}
-use Rattle.eleos_base.specs.Ties.{Has}
+use mathlib.Core.Logic.{dite}
+use native.Mathlib.Decide.{ℕ_discrete}
+use Rattle.eleos_base.specs.Ties.{Has, Tie, neither}
 use Rattle.eleos_base.specs.Terms.{Terms}
 use Rattle.eleos_base.specs.Histories.{put, made, opened, no_link, linked, Legal}
 use Rattle.eleos_turn.specs.Numbers.{times, numbers_of}
-use Rattle.eleos_turn.specs.Words.{pins_in}
-use Rattle.eleos_turn.specs.Hands.{HandState, without_turn, with_pin, without_pin, part_of, links_on, own, entries, IsSound, Took, CanStamp, Stamped, Heard, Goes}
-use Rattle.eleos_turn.proofs.Numbers.{here}
+use Rattle.eleos_base.specs.Words.{pins_in}
+use Rattle.eleos_turn.specs.Hands.{HandState, without_turn, with_pin, without_pin, part_of, tied_to, links_from, links, links_on, own, entries, IsSound, Took, CanStamp, Stamped, Heard, Goes}
+use Rattle.eleos_turn.proofs.Numbers.{here, else}
+use Rattle.eleos_turn.proofs.Links.{links_times}
 use Rattle.eleos_turn.proofs.Histories.{put_same, put_else, made_append, made_apart, legal_back}
 use Rattle.eleos_turn.proofs.Owns.{own_more, own_last}
 use Rattle.eleos_turn.proofs.Sound.{numbers_made}
@@ -97,3 +100,37 @@ module _ {C D Q G : Type 0} (t : Terms C D Q G) where
     more = k.more ++ e ∷ [];
     sees = ap (λ (y : HandState D Q G). y.seen) k.now ∙ append_assoc s.seen k.more (e ∷ []);
   }
+
+  -- the links after these entries of the hand, where these were there before
+  abbrev links_by : G → List ℕ → List (ℕ × D) → List ℕ
+  links_by g l [] = l
+  links_by g l (x ∷ xs) = links_by g (tied_to t (t.tie g x.1) l) xs
+
+  links_by_more : (g : G) (l : List ℕ) (xs ys : List (ℕ × D)) → links_by g l (xs ++ ys) ≡ links_by g (links_by g l xs) ys
+  links_by_more g l [] ys = refl
+  links_by_more g l (x ∷ xs) ys = links_by_more g (tied_to t (t.tie g x.1) l) xs ys
+
+  -- the links of a hand are those that its own entries left
+  links_own : (g : G) (k n : ℕ) (l : List ℕ) (es : List (Event D Q)) → links_from t g k l es ≡ links_by g l (own t k n es)
+  links_own g k n l [] = refl
+  links_own g k n l (e ∷ es) = let tied : List ℕ = tied_to t (t.tie g e.entry) l in let own_then : List (ℕ × D) = own t k (n + 1) es in dite (ℕ_discrete k (t.who e.entry))
+      (λ is. ap (λ (z : List ℕ). links_from t g k z es) (here k (t.who e.entry) tied l is)
+      ∙ (links_own g k (n + 1) tied es ∙ sym (ap (links_by g l) (here (t.who e.entry) k ((n, e.entry) ∷ own_then) own_then (sym is)))))
+      (λ ne. ap (λ (z : List ℕ). links_from t g k z es) (else k (t.who e.entry) tied l ne)
+      ∙ (links_own g k (n + 1) l es ∙ sym (ap (links_by g l) (else (t.who e.entry) k ((n, e.entry) ∷ own_then) own_then (λ is. ne (sym is))))))
+
+  -- none of these entries adds a link or takes one off
+  abbrev pub AreUntied : G → List (ℕ × D) → Type 0
+  AreUntied g [] = Unit {0}
+  AreUntied g (x ∷ xs) = (t.tie g x.1 ≡ neither) × AreUntied g xs
+
+  links_untied : (g : G) (l : List ℕ) (xs : List (ℕ × D)) → AreUntied g xs → links_by g l xs ≡ l
+  links_untied g l [] none = refl
+  links_untied g l (x ∷ xs) none = ap (λ (y : Tie). links_by g (tied_to t y l) xs) none.0 ∙ links_untied g l xs none.1
+
+  -- calls that make such entries alone leave the hand's links on each cell as they are
+  pub goes_links : (s s' : HandState D Q G) (made : List (ℕ × D)) → Goes t s s' made → AreUntied s.home.base.grounds made → (c : ℕ) → links_on t s' c ≡ links_on t s c
+  goes_links s s' made goes none c = let g : G = s.home.base.grounds in let g' : G = s'.home.base.grounds in
+      let list : links t s' ≡ links t s = links_own g' s'.number 0 [] s'.seen ∙ ((λ i. links_by ((goes.home i).base.grounds) [] (goes.own i))
+      ∙ (links_by_more g [] (entries t s) made ∙ (links_untied g (links_by g [] (entries t s)) made none ∙ sym (links_own g s.number 0 [] s.seen)))) in
+      sym (links_times t g' s'.number [] no_link s'.seen (λ _. refl) c) ∙ (ap (times c) list ∙ links_times t g s.number [] no_link s.seen (λ _. refl) c)

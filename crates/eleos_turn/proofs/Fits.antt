@@ -16,9 +16,9 @@ use Rattle.eleos_turn.specs.Numbers.{times, numbers_of, most_of, most_pins}
 use Rattle.eleos_turn.specs.Rule.{Apart, IsAtRest}
 use Rattle.eleos_turn.specs.Views.{hand_of, freed, pinned, unpinned, harked}
 use Rattle.eleos_turn.specs.Plays.{SeatTook, SeatStamped, SeatCanStamp, SeesMore}
-use Rattle.eleos_turn.specs.Hands.{Home, HandState, no_refusal, fresh, dealt, state_of, view_of, with_turn, without_turn, with_entry, with_pin, without_pin, tied_to, links, links_on, CanStamp, Stamped, IsSound, IsHand, tallied}
+use Rattle.eleos_turn.specs.Hands.{Home, HandState, no_refusal, fresh, dealt, state_of, view_of, with_turn, without_turn, with_entry, with_pin, without_pin, looked_at, refused_at, tied_to, links, links_on, CanStamp, Stamped, IsSound, IsHand, tallied}
 use Rattle.eleos_turn.proofs.Numbers.{here, less_exact, times_has}
-use Rattle.eleos_turn.proofs.Sound.{numbers_made, numbers_only, most_made, links_more, sound_more, sound_took, sound_given, sound_entry, sound_pin, sound_unpin, sound_looked, sound_fresh}
+use Rattle.eleos_turn.proofs.Sound.{numbers_made, numbers_only, most_made, links_more, sound_more, sound_took, sound_given, sound_entry, sound_pin, sound_unpin, sound_looked, sound_refused, sound_fresh}
 use Rattle.eleos_turn.proofs.Links.{links_append, links_apart, links_times, tied_count}
 
 module _ {C D Q G : Type 0} (t : Terms C D Q G) where
@@ -69,15 +69,15 @@ module _ {C D Q G : Type 0} (t : Terms C D Q G) where
   fits_unpinned z z' k r m m' stamps held tied c i same more now = let s : S = state_of z k r m.0 in
       fits z' k r m' stamps held tied (without_pin s c) same refl refl (now ∙ ap (λ (y : M). (unpinned y.0 c, y.1)) i.is) i.left i.turned i.links i.few (sound_unpin t s c i.sound more)
 
-  pub fits_looked : (z z' : TableId) (k : ℕ) (r : Refused) (m m' : M) (stamps held tied : ℕ) (l : ℕ × ℕ) → IsHand t (state_of z k r m.0) m stamps held tied → z' ≡ z → m' ≡ (record m.0 { looked = l }, m.1)
-      → IsHand t (state_of z' k r m'.0) m' stamps held tied
-  fits_looked z z' k r m m' stamps held tied l i same now = let s : S = state_of z k r m.0 in
-      fits z' k r m' stamps held tied (record s { looked = l }) same refl refl (now ∙ ap (λ (y : M). (record y.0 { looked = l }, y.1)) i.is) i.left i.turned i.links i.few (sound_looked t s l s.tried r i.sound)
+  pub fits_looked : (z z' : TableId) (k : ℕ) (r : Refused) (m m' : M) (stamps held tied c n : ℕ) → IsHand t (state_of z k r m.0) m stamps held tied → z' ≡ z
+      → m' ≡ (record m.0 { looked = (c, n); looks = m.0.looks + 1 }, m.1) → IsHand t (state_of z' k r m'.0) m' stamps held tied
+  fits_looked z z' k r m m' stamps held tied c n i same now = let s : S = state_of z k r m.0 in
+      fits z' k r m' stamps held tied (looked_at s c n) same refl refl (now ∙ ap (λ (y : M). (record y.0 { looked = (c, n); looks = y.0.looks + 1 }, y.1)) i.is) i.left i.turned i.links i.few (sound_looked t s c n i.sound)
 
-  pub fits_refused : (z z' : TableId) (k : ℕ) (r r' : Refused) (m m' : M) (stamps held tied : ℕ) (y : ℕ × ℕ) → IsHand t (state_of z k r m.0) m stamps held tied → z' ≡ z → m' ≡ (record m.0 { tried = y }, m.1)
-      → IsHand t (state_of z' k r' m'.0) m' stamps held tied
-  fits_refused z z' k r r' m m' stamps held tied y i same now = let s : S = state_of z k r m.0 in
-      fits z' k r' m' stamps held tied (record s { tried = y; refused = r' }) same refl refl (now ∙ ap (λ (z : M). (record z.0 { tried = y }, z.1)) i.is) i.left i.turned i.links i.few (sound_looked t s s.looked y r' i.sound)
+  pub fits_refused : (z z' : TableId) (k : ℕ) (r r' : Refused) (m m' : M) (stamps held tied c n : ℕ) → IsHand t (state_of z k r m.0) m stamps held tied → z' ≡ z
+      → m' ≡ (record m.0 { tried = (c, n); misses = m.0.misses + 1 }, m.1) → r' ≡ (refused_at (state_of z k r m.0) c n).refused → IsHand t (state_of z' k r' m'.0) m' stamps held tied
+  fits_refused z z' k r r' m m' stamps held tied c n i same now counted = let s : S = state_of z k r m.0 in
+      fits z' k r' m' stamps held tied (refused_at s c n) same refl counted (now ∙ ap (λ (y : M). (record y.0 { tried = (c, n); misses = y.0.misses + 1 }, y.1)) i.is) i.left i.turned i.links i.few (sound_refused t s c n i.sound)
 
   -- what a hand may stamp its seat may stamp
   pub seat_can : (s : S) (d : D) (kept : List (ℕ × Q)) → IsSound t s → CanStamp t s d kept → SeatCanStamp t (view_of s) (record { entry = d; kept = kept })
@@ -156,7 +156,7 @@ module _ {C D Q G : Type 0} (t : Terms C D Q G) where
       let most : m.0.most + most_of o.number ≡ most_of k = (let q = ap (λ (y : M). y.0.most) i.is in omega (arith, no_most, q)) in
       let moving : m.0.moving ≡ 0 = ap (λ (y : M). y.0.moving) i.is in
       let s' : S = record s { seen = s.seen ++ more } in
-      let is : m'.0 ≡ view_of s' = now ∙ (λ j. record { base = m.0.base; numbers = numbers j; seen = m.0.seen ++ more; held = m.0.held; clean = m.0.clean; moving = moving j; pins = pins j; told = []; looked = m.0.looked; tried = m.0.tried; left = left j; most = most j }) in
+      let is : m'.0 ≡ view_of s' = now ∙ (λ j. record { base = m.0.base; numbers = numbers j; seen = m.0.seen ++ more; held = m.0.held; clean = m.0.clean; moving = moving j; pins = pins j; told = []; looked = m.0.looked; looks = m.0.looks; tried = m.0.tried; misses = m.0.misses; left = left j; most = most j }) in
       let sees' : SeesMore t (view_of s) more = (subst (λ (l : List ℕ). Apart t m.0.base.grounds l m.0.held more) numbers sees.0, sees.1, sees.2) in
       let room' : length (s.seen ++ more) + s.left ≤ s.home.base.hands * s.home.base.each = subst (λ (w : View D Q G). length (m.0.seen ++ more) + w.left ≤ w.base.hands * w.base.each) is room in
       fits z' k r m' stamps held tied s' same refl refl (λ j. (is j, (rest ∙ ap (λ (y : M). y.1) i.is) j)) i.left i.turned

@@ -16,7 +16,8 @@ use Rattle.eleos_turn.specs.declared.view.View.{View}
 use Rattle.eleos_turn.specs.Numbers.{times, total, most_pins}
 use Rattle.eleos_turn.specs.Rule.{SeatOk, CellOk, Kept, Apart}
 use Rattle.eleos_turn.specs.Plays.{SeesMore}
-use Rattle.eleos_turn.specs.Words.{IsPlain}
+use Rattle.eleos_base.specs.Words.{IsPlain, pins_in}
+use Rattle.eleos_turn.specs.Words.{word_of}
 use Rattle.eleos_turn.proofs.Numbers.{times_length, total_same, total_one, total_le}
 use Rattle.eleos_turn.proofs.Histories.{made_append, linked_append, legal_back, made_apart, linked_apart}
 
@@ -24,6 +25,10 @@ pub length_here : {A : Type 0} (l : List A) (i : ℕ) (a : A) → get_elem? l i 
 length_here [] i a e = absurd (some-ne-none a (sym e))
 length_here (x ∷ xs) zero a e = omega arith
 length_here (x ∷ xs) (suc i) a e = let h = length_here xs i a e in omega arith
+
+-- all that stands from bit 8 on in a word are its pins
+pub pins_plain : (n : ℕ) → IsPlain n → pins_in n ≡ n / 256
+pins_plain n plain = let high = plain.high in omega (arith, high)
 
 module _ {C D Q G : Type 0} (t : Terms C D Q G) (b : Base Q G) where
   abbrev pub V : Type 0
@@ -50,9 +55,9 @@ module _ {C D Q G : Type 0} (t : Terms C D Q G) (b : Base Q G) where
   abbrev pub Cell : List E → List ℕ → Homes → List V → (ℕ → ℕ) → ℕ → Type 0
   Cell = CellOk t b
 
-  -- word c + 1 has the same parity and the same pins, and no further bit
+  -- the word of c has the same parity and the same pins, and no further bit
   abbrev pub SameWord : List ℕ → List ℕ → ℕ → Type 0
-  SameWord ws' ws c = (get_or ws' (c + 1) 0 % 2 ≡ get_or ws (c + 1) 0 % 2) × (get_or ws' (c + 1) 0 / 256 ≡ get_or ws (c + 1) 0 / 256) × (get_or ws (c + 1) 0 % 256 < 4 → get_or ws' (c + 1) 0 % 256 < 4)
+  SameWord ws' ws c = (get_or ws' (word_of c) 0 % 2 ≡ get_or ws (word_of c) 0 % 2) × (get_or ws' (word_of c) 0 / 256 ≡ get_or ws (word_of c) 0 / 256) × (get_or ws (word_of c) 0 % 256 < 4 → get_or ws' (word_of c) 0 % 256 < 4)
 
   pub every : (K : ℕ → V → Type 0) (vs : List V) (me : ℕ) (w : V) → K me w → ((j : ℕ) (d : V) → j ≢ me → get_elem? vs j ≡ some d → K j d)
       → (j : ℕ) (d : V) → get_elem? (set vs me w) j ≡ some d → K j d
@@ -68,8 +73,8 @@ module _ {C D Q G : Type 0} (t : Terms C D Q G) (b : Base Q G) where
 
   -- what a step has to say of a seat, where it changes neither the history nor who has which number
   pub ok_again : (h : List E) (ws ws' : List ℕ) (homes homes' : Homes) (holder holder' owner : ℕ → ℕ) (j : ℕ) (d : V) → Ok h ws homes holder owner j d
-      → ((c : ℕ) → Has c d.held → (get_or ws' (c + 1) 0 % 2 ≡ get_or ws (c + 1) 0 % 2) × (holder' c ≡ holder c) × (get_elem? homes' c ≡ get_elem? homes c))
-      → ((c : ℕ) → Has c d.clean → get_or ws' (c + 1) 0 / 256 ≡ get_or ws (c + 1) 0 / 256) → Ok h ws' homes' holder' owner j d
+      → ((c : ℕ) → Has c d.held → (get_or ws' (word_of c) 0 % 2 ≡ get_or ws (word_of c) 0 % 2) × (holder' c ≡ holder c) × (get_elem? homes' c ≡ get_elem? homes c))
+      → ((c : ℕ) → Has c d.clean → get_or ws' (word_of c) 0 / 256 ≡ get_or ws (word_of c) 0 / 256) → Ok h ws' homes' holder' owner j d
   ok_again h ws ws' homes homes' holder holder' owner j d k turns pins = record {
     base_is = k.base_is;
     unseen = k.unseen;
@@ -111,8 +116,8 @@ module _ {C D Q G : Type 0} (t : Terms C D Q G) (b : Base Q G) where
 
   -- a cell whose turn stays with whom it is
   pub cell_turned : (s : St) (r : Rule s) (id : ℕ) (v w : V) (words' : List ℕ) (homes' : Homes) (holder' : ℕ → ℕ) (c : ℕ) → get_elem? s.views id ≡ some v → c < length b.opening
-      → get_or words' (c + 1) 0 % 2 ≡ get_or s.words (c + 1) 0 % 2 → get_elem? homes' c ≡ get_elem? s.homes c → holder' c ≡ r.holder c → (Has c v.held → Has c w.held)
-      → get_or words' (c + 1) 0 / 256 ≡ total (λ (d : V). times c d.pins) (set s.views id w) → get_or words' (c + 1) 0 % 256 < 4 → Cell r.history words' homes' (set s.views id w) holder' c
+      → get_or words' (word_of c) 0 % 2 ≡ get_or s.words (word_of c) 0 % 2 → get_elem? homes' c ≡ get_elem? s.homes c → holder' c ≡ r.holder c → (Has c v.held → Has c w.held)
+      → get_or words' (word_of c) 0 / 256 ≡ total (λ (d : V). times c d.pins) (set s.views id w) → get_or words' (word_of c) 0 % 256 < 4 → Cell r.history words' homes' (set s.views id w) holder' c
   cell_turned s r id v w words' homes' holder' c at inside same home holds keep pins low = let o = r.each_cell c inside in record {
     free = λ even. let f = o.free (sym same ∙ even) in (f.0, home ∙ f.1, f.2);
     busy = λ odd. let f = o.busy (sym same ∙ odd) in let z = still (λ (d : V). Has c d.held) s.views id (r.holder c) v w f.0 at f.1 f.2 keep in (z.0, ap (get_elem? (set s.views id w)) holds ∙ z.1, z.2);
@@ -157,20 +162,20 @@ module _ {C D Q G : Type 0} (t : Terms C D Q G) (b : Base Q G) where
       (λ j d _ there. ok_again r.history s.words words' s.homes s.homes r.holder r.holder r.owner j d (r.each_seat j d there) (λ c _. ((same c).0, refl, refl)) (λ c _. (same c).1))
       (λ c inside. cell_again s r id v w words' s.homes r.holder c at inside (same c) refl refl (subst (Has c) (sym held)) (ap (times c) pins))
 
-  -- where word c + 1 is set to n
-  pub word_else : (ws : List ℕ) (c n k : ℕ) → k ≢ c → get_or (set ws (c + 1) n) (k + 1) 0 ≡ get_or ws (k + 1) 0
-  word_else ws c n k ne = get_or-set_other ws (c + 1) (k + 1) n 0 (λ e. ne (omega arith))
+  -- where the word of c is set to n
+  pub word_else : (ws : List ℕ) (c n k : ℕ) → k ≢ c → get_or (set ws (word_of c) n) (word_of k) 0 ≡ get_or ws (word_of k) 0
+  word_else ws c n k ne = get_or-set_other ws (word_of c) (word_of k) n 0 (λ e. ne (omega arith))
 
-  pub same_else : (ws : List ℕ) (c n k : ℕ) → k ≢ c → SameWord (set ws (c + 1) n) ws k
+  pub same_else : (ws : List ℕ) (c n k : ℕ) → k ≢ c → SameWord (set ws (word_of c) n) ws k
   same_else ws c n k ne = let e = word_else ws c n k ne in (ap (λ (y : ℕ). y % 2) e, ap (λ (y : ℕ). y / 256) e, subst (λ (y : ℕ). y % 256 < 4) (sym e))
 
-  pub word_first : (ws : List ℕ) (c n : ℕ) → get_or (set ws (c + 1) n) 0 0 ≡ get_or ws 0 0
-  word_first ws c n = get_or-set_other ws (c + 1) 0 n 0 (λ e. omega arith)
+  pub word_first : (ws : List ℕ) (c n : ℕ) → get_or (set ws (word_of c) n) 0 0 ≡ get_or ws 0 0
+  word_first ws c n = get_or-set_other ws (word_of c) 0 n 0 (λ e. omega arith)
 
-  -- where the word c + 1 keeps its parity and its pins
-  pub same_there : (ws : List ℕ) (c n : ℕ) → c + 1 < length ws → n % 2 ≡ get_or ws (c + 1) 0 % 2 → n / 256 ≡ get_or ws (c + 1) 0 / 256 → (get_or ws (c + 1) 0 % 256 < 4 → n % 256 < 4) → (k : ℕ) → SameWord (set ws (c + 1) n) ws k
+  -- where the word of c keeps its parity and its pins
+  pub same_there : (ws : List ℕ) (c n : ℕ) → word_of c < length ws → n % 2 ≡ get_or ws (word_of c) 0 % 2 → n / 256 ≡ get_or ws (word_of c) 0 / 256 → (get_or ws (word_of c) 0 % 256 < 4 → n % 256 < 4) → (k : ℕ) → SameWord (set ws (word_of c) n) ws k
   same_there ws c n inside odd pins low k = dite (ℕ_discrete k c)
-      (λ (e : k ≡ c). subst (SameWord (set ws (c + 1) n) ws) (sym e) (let z = get_or-set_same ws (c + 1) n 0 inside in (ap (λ (y : ℕ). y % 2) z ∙ odd, ap (λ (y : ℕ). y / 256) z ∙ pins, (λ h. subst (λ (y : ℕ). y % 256 < 4) (sym z) (low h)))))
+      (λ (e : k ≡ c). subst (SameWord (set ws (word_of c) n) ws) (sym e) (let z = get_or-set_same ws (word_of c) n 0 inside in (ap (λ (y : ℕ). y % 2) z ∙ odd, ap (λ (y : ℕ). y / 256) z ∙ pins, (λ h. subst (λ (y : ℕ). y % 256 < 4) (sym z) (low h)))))
       (λ (ne : k ≢ c). same_else ws c n k ne)
 
   -- what the seat has not seen yet is legal behind what it has seen
@@ -205,10 +210,10 @@ module _ {C D Q G : Type 0} (t : Terms C D Q G) (b : Base Q G) where
       ∙ linked_apart t b.grounds (linked t b.grounds v.seen) v.numbers v.held o.unseen o.apart k has c)
 
   -- a word's pins are few
-  pub few_pins : (s : St) (r : Rule s) (c : ℕ) → c < length b.opening → get_or s.words (c + 1) 0 / 256 ≤ b.hands * most_pins
+  pub few_pins : (s : St) (r : Rule s) (c : ℕ) → c < length b.opening → get_or s.words (word_of c) 0 / 256 ≤ b.hands * most_pins
   few_pins s r c inside = let p = (r.each_cell c inside).pins in let m = r.pins in
       let q = total_le (λ (d : V). times c d.pins) (λ (d : V). d.most) s.views (λ j d there. le_trans (times_length c d.pins) (r.each_seat j d there).fits) in omega arith
 
   -- the word of a cell has no further bit
-  pub plain : (s : St) (r : Rule s) (c : ℕ) → c < length b.opening → b.hands ≤ 16 → IsPlain (get_or s.words (c + 1) 0)
+  pub plain : (s : St) (r : Rule s) (c : ℕ) → c < length b.opening → b.hands ≤ 16 → IsPlain (get_or s.words (word_of c) 0)
   plain s r c inside hands = let few = few_pins s r c inside in record { low = (r.each_cell c inside).low; high = omega (arith, few, hands) }

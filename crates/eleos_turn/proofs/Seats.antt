@@ -14,6 +14,7 @@ use Rattle.eleos_base.specs.Terms.{Terms}
 use Rattle.eleos_base.specs.Histories.{made, no_link, linked}
 use Rattle.eleos_turn.specs.declared.view.View.{View}
 use Rattle.eleos_turn.specs.Numbers.{times, above, total, most_pins, longer, shorter}
+use Rattle.eleos_turn.specs.Words.{word_of, words_for}
 use Rattle.eleos_turn.specs.Rule.{Apart, SeatOk, Kept, gone}
 use Rattle.eleos_turn.specs.Views.{dealing, dealt_from, dealt_to, noted, joined, harked}
 use Rattle.eleos_turn.proofs.Numbers.{tested, here, else, above_more, above_has, total_same, total_set, total_snoc}
@@ -312,7 +313,7 @@ module _ {C D Q G : Type 0} (t : Terms C D Q G) (b : Base Q G) where
   cell_open (x ∷ xs) (suc c) z l = cell_open xs c z (omega arith)
 
   -- the table at the start
-  pub opens : (items : List C) (ws : List ℕ) (xs : List (Option C)) → b.opening ≡ map t.part items → xs ≡ map Some items → length ws ≡ length items + 1 → ((i : ℕ) → get_or ws i 0 ≡ 0) → Rule (opening ws xs (dealing b 0 b.hands))
+  pub opens : (items : List C) (ws : List ℕ) (xs : List (Option C)) → b.opening ≡ map t.part items → xs ≡ map Some items → length ws ≡ words_for (length items) → ((i : ℕ) → get_or ws i 0 ≡ 0) → Rule (opening ws xs (dealing b 0 b.hands))
   opens items ws xs cells slots wide zeros = let v : V = dealing b 0 b.hands in let many : length b.opening ≡ length items = ap length cells ∙ length-map items t.part in record {
     history = [];
     holder = λ _. 0;
@@ -344,9 +345,9 @@ module _ {C D Q G : Type 0} (t : Terms C D Q G) (b : Base Q G) where
         (at_end [] v d j there);
     each_cell = λ c inside. record {
       free = λ _. let x = cell_open items c t.blank (omega (arith, inside, many)) in (x.0, ap (λ (l : List (Option C)). get_elem? (map some l) c) slots ∙ x.1, x.2 ∙ ap (λ (l : List Q). get_or l c t.blank) (sym cells));
-      busy = λ odd. let z = zeros (c + 1) in absurd (omega (arith, odd, z));
-      pins = let z = zeros (c + 1) in omega (arith, z);
-      low = let z = zeros (c + 1) in omega (arith, z);
+      busy = λ odd. let z = zeros (word_of c) in absurd (omega (arith, odd, z));
+      pins = let z = zeros (word_of c) in omega (arith, z);
+      low = let z = zeros (word_of c) in omega (arith, z);
     };
   }
     where
@@ -371,5 +372,5 @@ module _ {C D Q G : Type 0} (t : Terms C D Q G) (b : Base Q G) where
             (λ odd. let x = o.busy odd in let k = r.each_seat (r.holder c) x.0 x.1 in let n = k.acts c x.2 in let n_is = k.numbers n.0 n.1 in let mine = ok.numbers n.0 (all n.0 n_is.1 n_is.2) in
             let e : r.holder c ≡ id = sym n_is.0 ∙ mine.0 in let same : v ≡ x.0 = some-injective v x.0 (sym at ∙ (ap (get_elem? s.views) (sym e) ∙ x.1)) in
             let has : Has c [] = subst (Has c) (ap (λ (d : V). d.held) (sym same) ∙ idle) x.2 in absurd has)
-            (Rattle.eleos_turn.proofs.Numbers.parity (get_or s.words (c + 1) 0)),
+            (Rattle.eleos_turn.proofs.Numbers.parity (get_or s.words (word_of c) 0)),
       )

@@ -1,16 +1,16 @@
 -- What holds of a hand stays so.
-use Rattle.std.proofs.Common.{◌≡◌, ⊎_elim, inl, inr, ℕ, zero, suc, ◌+◌, ◌-◌, ◌*◌, ◌^◌, ◌<◌, ◌≤◌, List, [], ◌∷◌, ◌++◌, length, refl, sym, ap, ◌∙◌, subst, arith, le_refl, mul-le-mul, length-append}
+use Rattle.std.proofs.Common.{◌≡◌, min, ⊎_elim, inl, inr, ℕ, zero, suc, ◌+◌, ◌-◌, ◌*◌, ◌^◌, ◌<◌, ◌≤◌, List, [], ◌∷◌, ◌++◌, length, refl, sym, ap, ◌∙◌, subst, arith, le_refl, mul-le-mul, length-append}
 use mathlib.Core.Logic.{dite}
-use native.Mathlib.Decide.{ℕ_discrete}
+use native.Mathlib.Decide.{ℕ_discrete, dec_le}
+use Rattle.std.proofs.Math.Nat.{min-eq_left, min-eq_right}
 use Rattle.eleos_base.specs.declared.plot.Event.{Event}
 use Rattle.eleos_base.specs.Ties.{Has, adds}
 use Rattle.eleos_base.specs.Terms.{Terms}
 use Rattle.eleos_base.specs.Histories.{made, linked, no_link, Legal, Signed}
-use Rattle.eleos_turn.specs.declared.answers.Refused.{Refused}
 use Rattle.eleos_turn.specs.Numbers.{times, less_one, numbers_of, most_of, most_pins}
-use Rattle.eleos_turn.specs.Words.{pins_in}
+use Rattle.eleos_base.specs.Words.{pins_in}
 use Rattle.eleos_turn.specs.Rule.{Apart}
-use Rattle.eleos_turn.specs.Hands.{Home, HandState, fresh, split_of, with_turn, without_turn, with_pin, without_pin, links_on, entries, IsSound}
+use Rattle.eleos_turn.specs.Hands.{Home, HandState, fresh, split_of, with_turn, without_turn, with_pin, without_pin, looked_at, refused_at, links_on, entries, IsSound}
 use Rattle.eleos_turn.proofs.Numbers.{tested, has_none, times_here, times_else, less_here, less_else, less_once, less_has, less_length, without_has, has_less}
 use Rattle.eleos_turn.proofs.Histories.{linked_append, linked_apart, signed_append, tied_below}
 use Rattle.eleos_turn.proofs.Owns.{own_more, own_last}
@@ -51,6 +51,7 @@ module _ {C D Q G : Type 0} (t : Terms C D Q G) where
     once = k.once;
     clean = k.clean;
     few = k.few;
+    missed = k.missed;
     idle = k.idle;
   }
 
@@ -74,6 +75,7 @@ module _ {C D Q G : Type 0} (t : Terms C D Q G) where
         (λ e h. ⊎_elim (λ (q : d ≡ c). inl q) (λ (q : Has d s.clean). inr (k.clean d q)) h)
         (λ ne h. inr (k.clean d h));
     few = k.few;
+    missed = k.missed;
     idle = λ z. absurd (omega (arith, z, made));
   }
 
@@ -93,6 +95,7 @@ module _ {C D Q G : Type 0} (t : Terms C D Q G) where
     once = λ d. less_once c d s.turns (k.once d);
     clean = λ d h. let q = without_has c d s.clean h in has_less c d s.turns (k.clean d q.0) q.1;
     few = k.few;
+    missed = k.missed;
     idle = λ z. absurd (subst (Has c) (k.idle z).0 had);
   }
 
@@ -116,6 +119,7 @@ module _ {C D Q G : Type 0} (t : Terms C D Q G) where
         once = k.once;
         clean = k.clean;
         few = k.few;
+        missed = k.missed;
         idle = λ z. absurd (omega (arith, z, made));
       }
 
@@ -137,6 +141,7 @@ module _ {C D Q G : Type 0} (t : Terms C D Q G) where
     once = k.once;
     clean = k.clean;
     few = let q = most_made s.number made in omega (arith, q, few);
+    missed = k.missed;
     idle = λ z. absurd (omega (arith, z, made));
   }
 
@@ -157,12 +162,13 @@ module _ {C D Q G : Type 0} (t : Terms C D Q G) where
     once = k.once;
     clean = k.clean;
     few = let q = less_length c s.pins in let f = k.few in omega (arith, q, f);
+    missed = k.missed;
     idle = λ z. let i = k.idle z in let q = ap (times c) i.1 in absurd (omega (arith, q, some));
   }
 
-  -- a word was found, by a look or a try
-  pub sound_looked : (s : HandState D Q G) (l y : ℕ × ℕ) (r : Refused) → IsSound t s → IsSound t (record s { looked = l; tried = y; refused = r })
-  sound_looked s l y r k = record {
+  -- a word was found by a look
+  pub sound_looked : (s : HandState D Q G) (c n : ℕ) → IsSound t s → IsSound t (looked_at s c n)
+  sound_looked s c n k = record {
     alive = k.alive;
     small = k.small;
     stamps = k.stamps;
@@ -176,6 +182,33 @@ module _ {C D Q G : Type 0} (t : Terms C D Q G) where
     once = k.once;
     clean = k.clean;
     few = k.few;
+    missed = k.missed;
+    idle = k.idle;
+  }
+
+  -- a count that stops at its greatest, after one more
+  one_missed : (m count most : ℕ) → count ≡ min m most → min (count + 1) most ≡ min (m + 1) most
+  one_missed m count most is = dite (dec_le m most)
+      (λ below. ap (λ (n : ℕ). min (n + 1) most) (is ∙ min-eq_left below))
+      (λ over. ap (λ (n : ℕ). min (n + 1) most) (is ∙ min-eq_right (omega (arith, over))) ∙ (min-eq_right (omega arith) ∙ sym (min-eq_right (omega (arith, over)))))
+
+  -- a word was found by a try, which showed the cell busy
+  pub sound_refused : (s : HandState D Q G) (c n : ℕ) → IsSound t s → IsSound t (refused_at s c n)
+  sound_refused s c n k = record {
+    alive = k.alive;
+    small = k.small;
+    stamps = k.stamps;
+    named = k.named;
+    legal = k.legal;
+    signed = k.signed;
+    room = k.room;
+    counts = k.counts;
+    covered = k.covered;
+    turns = k.turns;
+    once = k.once;
+    clean = k.clean;
+    few = k.few;
+    missed = one_missed s.misses s.refused.count (2 ^ 64 - 1) k.missed;
     idle = k.idle;
   }
 
@@ -194,6 +227,7 @@ module _ {C D Q G : Type 0} (t : Terms C D Q G) where
     once = λ c. omega arith;
     clean = λ c h. h;
     few = le_refl 0;
+    missed = refl;
     idle = λ _. (refl, refl, refl);
   }
 
@@ -212,5 +246,6 @@ module _ {C D Q G : Type 0} (t : Terms C D Q G) where
     once = λ c. omega arith;
     clean = λ c h. h;
     few = let q = most_made k made in omega (arith, q);
+    missed = refl;
     idle = λ e. absurd (omega (arith, e, made));
   }

@@ -15,6 +15,8 @@ use Rattle.eleos_base.specs.Terms.{Terms, IsLocal}
 use Rattle.eleos_base.specs.Histories.{put, made, opened, no_link, linked, tied_up, MayFollow, LegalFrom, Legal}
 use Rattle.eleos_turn.specs.declared.view.View.{View}
 use Rattle.eleos_turn.specs.Numbers.{times, less_one}
+use Rattle.eleos_base.specs.Words.{pins_in}
+use Rattle.eleos_turn.specs.Words.{word_of}
 use Rattle.eleos_turn.specs.Rule.{SeatOk, Kept}
 use Rattle.eleos_turn.specs.Views.{Room, busied, moved, freed, stamped, pinned, unpinned}
 use Rattle.eleos_turn.specs.Plays.{SeesMore, Turn, takes_turn, lays, fetches, gives_turn, stays, looks, Shows, hears, pins_one, unpins_one, stamps_one, SeatCanStamp}
@@ -44,13 +46,16 @@ module _ {C D Q G : Type 0} (t : Terms C D Q G) (b : Base Q G) where
   covered_all s r id v at k has c = let ok = r.each_seat id v at in let e : linked t b.grounds (v.seen ++ ok.unseen) k c ≡ linked t b.grounds v.seen k c = ap (λ (z : List E). linked t b.grounds z k c) (sym ok.sees) ∙ kept.kept_links t b s r id v at k has c in
       let h = ok.covered k has c in omega (arith, e, h)
 
-  pub turn_taken : (slots id : ℕ) (me : M) (c k number : ℕ) → c < length b.opening → slots ≡ length b.opening → b.hands ≤ 16 → k % 2 ≡ 1 → k < 4 → me.0.moving ≡ 0 → Has number me.0.numbers → 0 < me.0.base.hands
-      → Allows Rule slots id me (c + 1) (λ n. bit_or n k) (takes_turn t (at_step slots (c + 1) k 0 none) me)
-  turn_taken slots id me c k number inside count hands odd_k small_k rests numbered alive s r deep at small = let v : V = me.0 in let n : ℕ = get_or s.words (c + 1) 0 in let n' : ℕ = bit_or n k in let ok = r.each_seat id v at in let wide = r.wide in
-      let ws : List ℕ = set s.words (c + 1) n' in let now : get_or ws (c + 1) 0 ≡ n' = get_or-set_same s.words (c + 1) n' 0 (omega arith) in
-      let pins : get_or ws (c + 1) 0 / 256 ≡ n / 256 = ap (λ (z : ℕ). z / 256) now ∙ or_pins n k (omega (arith, small_k)) in
-      let busy_now : get_or ws (c + 1) 0 % 2 ≡ 1 = ap (λ (z : ℕ). z % 2) now ∙ or_odd n k odd_k in let o = r.each_cell c inside in
-      let plain = kept.plain t b s r c inside hands in ⊎_elim
+  pub turn_taken : (missed : ℕ → ℕ) (slots id : ℕ) (me : M) (c k number : ℕ) → c < length b.opening → slots ≡ length b.opening → b.hands ≤ 16 → k % 2 ≡ 1 → k < 4 → me.0.moving ≡ 0 → Has number me.0.numbers → 0 < me.0.base.hands
+      → Allows Rule slots id me (word_of c) (λ n. bit_or n k) (takes_turn t missed (at_step slots (word_of c) k 0 none) me)
+  turn_taken missed slots id me c k number inside count hands odd_k small_k rests numbered alive s r deep at small = let v : V = me.0 in let n : ℕ = get_or s.words (word_of c) 0 in let n' : ℕ = bit_or n k in let ok = r.each_seat id v at in let wide = r.wide in
+      let ws : List ℕ = set s.words (word_of c) n' in let now : get_or ws (word_of c) 0 ≡ n' = get_or-set_same s.words (word_of c) n' 0 (omega arith) in
+      let pins : get_or ws (word_of c) 0 / 256 ≡ n / 256 = ap (λ (z : ℕ). z / 256) now ∙ or_pins n k (omega (arith, small_k)) in
+      let busy_now : get_or ws (word_of c) 0 % 2 ≡ 1 = ap (λ (z : ℕ). z % 2) now ∙ or_odd n k odd_k in let o = r.each_cell c inside in
+      let plain = kept.plain t b s r c inside hands in
+      let all_pins : pins_in n ≡ n / 256 = kept.pins_plain n plain in
+      let counted : (c' : ℕ) → word_of c ≡ word_of c' → times c' v.pins ≤ pins_in n = (λ c' is. let one = total_one (λ (d : V). times c d.pins) s.views id v at in let sums = o.pins in let e : c ≡ c' = omega (arith, is) in
+      subst (λ (z : ℕ). times z v.pins ≤ pins_in n) e (omega (arith, one, sums, all_pins))) in ⊎_elim
       (λ (even : n % 2 ≡ 0). let f = o.free even in let w : V = busied v ok.unseen c n in let all = kept.sees_all t b s r id v ok alive in
       let free_of : (j : ℕ) (d : V) → get_elem? s.views j ≡ some d → Has c d.held → ⊥ = (λ j d there has. let x = (r.each_seat j d there).turns c has in omega (arith, x.1, even)) in
       let holder' : ℕ → ℕ = λ (z : ℕ). cond (eqb z c) id (r.holder z) in
@@ -64,7 +69,7 @@ module _ {C D Q G : Type 0} (t : Terms C D Q G) (b : Base Q G) where
         w,
         takes c (Some f.0),
         f.1,
-        kept.cell_step t b s r id v w c ws (set s.homes c none) holder' at (length-set s.words (c + 1) n') (kept.word_first t b s.words c n') (λ z ne. kept.same_else t b s.words c n' z ne)
+        kept.cell_step t b s r id v w c ws (set s.homes c none) holder' at (length-set s.words (word_of c) n') (kept.word_first t b s.words c n') (λ z ne. kept.same_else t b s.words c n' z ne)
             (length-set s.homes c none) (λ z ne. set_else s.homes c z none ne) held_else (λ j d _. free_of j d) (λ z _ has. inr has) (λ _ _. refl) refl refl (λ _ has. has)
             record {
               base_is = ok.base_is;
@@ -76,15 +81,15 @@ module _ {C D Q G : Type 0} (t : Terms C D Q G) (b : Base Q G) where
               numbers = ok.numbers;
               acts = λ _ _. (number, numbered);
               turns = λ z has. dite (ℕ_discrete z c)
-                  (λ (e : z ≡ c). (omega arith, ap (λ (y : ℕ). get_or ws (y + 1) 0 % 2) e ∙ busy_now, ap holder' e ∙ held_here, λ ne. absurd (ne (ap (λ (y : ℕ). y + 1) (sym e)))))
+                  (λ (e : z ≡ c). (omega arith, ap (λ (y : ℕ). get_or ws (word_of y) 0 % 2) e ∙ busy_now, ap holder' e ∙ held_here, λ ne. absurd (ne (ap (λ (y : ℕ). y + 1) (sym e)))))
                   (λ (ne : z ≢ c). let has' : Has z v.held = ⊎_elim (λ (e : z ≡ c). absurd (ne e)) (λ (h : Has z v.held). h) has in let x = ok.turns z has' in
                   (x.0, (kept.same_else t b s.words c n' z ne).0 ∙ x.1, held_else z ne ∙ x.2, λ m. set_else s.homes c z none ne ∙ x.3 (λ (e : v.moving ≡ z + 1). absurd (omega (arith, e, rests)))));
-              clean = λ z. let old : Has z v.clean → Has z w.held × (get_or ws (z + 1) 0 / 256 ≡ times z v.pins) = (λ has. let x = ok.clean z has in let ne : z ≢ c = (λ e. free_of id v at (subst (λ (y : ℕ). Has y v.held) e x.0)) in
+              clean = λ z. let old : Has z v.clean → Has z w.held × (get_or ws (word_of z) 0 / 256 ≡ times z v.pins) = (λ has. let x = ok.clean z has in let ne : z ≢ c = (λ e. free_of id v at (subst (λ (y : ℕ). Has y v.held) e x.0)) in
                   (inr x.0, (kept.same_else t b s.words c n' z ne).1 ∙ x.1)) in
-                  tested (λ (l : List ℕ). Has z l → Has z w.held × (get_or ws (z + 1) 0 / 256 ≡ times z v.pins)) (n / 256) 0 (c ∷ v.clean) v.clean
-                  (λ none_there has. ⊎_elim
+                  tested (λ (l : List ℕ). Has z l → Has z w.held × (get_or ws (word_of z) 0 / 256 ≡ times z v.pins)) (pins_in n) 0 (c ∷ v.clean) v.clean
+                  (λ none_shown has. let none_there : n / 256 ≡ 0 = sym all_pins ∙ none_shown in ⊎_elim
                   (λ (e : z ≡ c). let one = total_one (λ (d : V). times c d.pins) s.views id v at in let sums = o.pins in let nothing : times c v.pins ≡ 0 = omega (arith, one, sums, none_there) in
-                  (inl e, ap (λ (y : ℕ). get_or ws (y + 1) 0 / 256) e ∙ (pins ∙ (none_there ∙ sym nothing)) ∙ ap (λ (y : ℕ). times y v.pins) (sym e)))
+                  (inl e, ap (λ (y : ℕ). get_or ws (word_of y) 0 / 256) e ∙ (pins ∙ (none_there ∙ sym nothing)) ∙ ap (λ (y : ℕ). times y v.pins) (sym e)))
                   old has)
                   (λ _ has. old has);
               covered = λ z has y. covered_all s r id v at z has y;
@@ -101,14 +106,15 @@ module _ {C D Q G : Type 0} (t : Terms C D Q G) (b : Base Q G) where
           λ _ c' is. let e : c ≡ c' = omega arith in subst (λ (z : ℕ). Turn t z n me (busied v ok.unseen c n, (c, Some f.0) ∷ me.1)) e
               (ok.unseen, f.0, refl, all.0, f.2 ∙ ap (λ (g : ℕ → Q). g c) (sym all.1), kept.room_seen t b s r id v at alive, few'),
           plain,
+          counted,
         ),
       ))
-      (λ (odd : n % 2 ≡ 1). let same = kept.same_there t b s.words c n' (omega arith) (or_odd n k odd_k ∙ sym odd) (or_pins n k (omega (arith, small_k))) (or_low n k small_k) in let w : V = record v { tried = (c, n) } in
+      (λ (odd : n % 2 ≡ 1). let same = kept.same_there t b s.words c n' (omega arith) (or_odd n k odd_k ∙ sym odd) (or_pins n k (omega (arith, small_k))) (or_low n k small_k) in let w : V = record v { tried = (c, n); misses = missed v.misses } in
       let again = kept.ok_again t b r.history s.words ws s.homes s.homes r.holder r.holder r.owner id v ok (λ z _. ((same z).0, refl, refl)) (λ z _. (same z).1) in (
         w,
         keeps,
         tt,
-        kept.unmoved t b s r id v w ws at (length-set s.words (c + 1) n') (kept.word_first t b s.words c n') same refl refl refl refl refl record {
+        kept.unmoved t b s r id v w ws at (length-set s.words (word_of c) n') (kept.word_first t b s.words c n') same refl refl refl refl refl record {
           base_is = again.base_is;
           unseen = again.unseen;
           sees = again.sees;
@@ -122,7 +128,7 @@ module _ {C D Q G : Type 0} (t : Terms C D Q G) (b : Base Q G) where
           covered = again.covered;
           fits = again.fits;
         },
-        ((λ _ c' is. let e : c ≡ c' = omega (arith, is) in λ i. (record v { tried = (e i, n) }, me.1)), (λ even. absurd (omega (arith, odd, even))), plain),
+        ((λ _ c' is. let e : c ≡ c' = omega (arith, is) in λ i. (record v { tried = (e i, n); misses = missed v.misses }, me.1)), (λ even. absurd (omega (arith, odd, even))), plain, counted),
       ))
       (parity n)
 
@@ -172,28 +178,28 @@ module _ {C D Q G : Type 0} (t : Terms C D Q G) (b : Base Q G) where
         refl,
       )
 
-  pub slot_fetched : (slots id : ℕ) (me : M) (c : ℕ) → me.0.moving ≡ 0 → Has c me.0.held → Allows Rule slots id me (c + 1) (λ n. n) (fetches t (at_step slots (c + 1) 0 0 none) me)
+  pub slot_fetched : (slots id : ℕ) (me : M) (c : ℕ) → me.0.moving ≡ 0 → Has c me.0.held → Allows Rule slots id me (word_of c) (λ n. n) (fetches t (at_step slots (word_of c) 0 0 none) me)
   slot_fetched slots id me c rests has s r deep at small = let v : V = me.0 in let w : V = moved v (c + 1) in let ok = r.each_seat id v at in let x = ok.turns c has in (
     w,
     takes c None,
     x.3 (λ e. absurd (omega arith)),
-    slot_step s r id (c + 1) v at c (c + 1) (set s.homes c none) has (length-set s.homes c none) (λ z ne. set_else s.homes c z none ne) (λ ne. absurd (ne refl)) (λ z _ _ e. omega arith),
+    slot_step s r id (word_of c) v at c (c + 1) (set s.homes c none) has (length-set s.homes c none) (λ z ne. set_else s.homes c z none ne) (λ ne. absurd (ne refl)) (λ z _ _ e. omega arith),
     λ c' is. let e : c ≡ c' = omega arith in λ i. (moved v (e i + 1), (e i, None) ∷ me.1),
   )
 
   pub turn_given : (slots id : ℕ) (me : M) (c k : ℕ) (x : C) → k % 2 ≡ 0 → k / 4 ≡ 4611686018427387903 → me.1 ≡ (c, Some x) ∷ [] → me.0.moving ≡ c + 1 → Has c me.0.held → t.part x ≡ made t me.0.base me.0.seen c → 0 < me.0.base.hands
-      → Allows Rule slots id me (c + 1) (λ n. bit_and n k) (gives_turn t (at_step slots (c + 1) k 0 none) me)
+      → Allows Rule slots id me (word_of c) (λ n. bit_and n k) (gives_turn t (at_step slots (word_of c) k 0 none) me)
   turn_given slots id me c k x even_k rest_k carries moves has right alive s r deep at small = let v : V = me.0 in let w : V = freed v c in let ok = r.each_seat id v at in let y = ok.turns c has in
-      let n : ℕ = get_or s.words (c + 1) 0 in let n' : ℕ = bit_and n k in let ws : List ℕ = set s.words (c + 1) n' in let wide = r.wide in let as_deep = r.deep in
-      let now : get_or ws (c + 1) 0 ≡ n' = get_or-set_same s.words (c + 1) n' 0 (omega arith) in
-      let free_now : get_or ws (c + 1) 0 % 2 ≡ 0 = ap (λ (z : ℕ). z % 2) now ∙ and_even n k even_k in
-      let pins : get_or ws (c + 1) 0 / 256 ≡ n / 256 = ap (λ (z : ℕ). z / 256) now ∙ and_pins n k small (omega (arith, rest_k)) in
-      let P : List (ℕ × Option C) → Type 0 = λ l. (w' : V) × (a : Act (Option C)) × Valid s.homes l a × Rule (stepped s (c + 1) n' id l w' a) × gives_turn t (at_step slots (c + 1) k 0 none) (v, l) n (w', carried_after l a) in
+      let n : ℕ = get_or s.words (word_of c) 0 in let n' : ℕ = bit_and n k in let ws : List ℕ = set s.words (word_of c) n' in let wide = r.wide in let as_deep = r.deep in
+      let now : get_or ws (word_of c) 0 ≡ n' = get_or-set_same s.words (word_of c) n' 0 (omega arith) in
+      let free_now : get_or ws (word_of c) 0 % 2 ≡ 0 = ap (λ (z : ℕ). z % 2) now ∙ and_even n k even_k in
+      let pins : get_or ws (word_of c) 0 / 256 ≡ n / 256 = ap (λ (z : ℕ). z / 256) now ∙ and_pins n k small (omega (arith, rest_k)) in
+      let P : List (ℕ × Option C) → Type 0 = λ l. (w' : V) × (a : Act (Option C)) × Valid s.homes l a × Rule (stepped s (word_of c) n' id l w' a) × gives_turn t (at_step slots (word_of c) k 0 none) (v, l) n (w', carried_after l a) in
       subst P (sym carries) (
         w,
         gives,
         tt,
-        kept.cell_step t b s r id v w c ws (set s.homes c (some (Some x))) r.holder at (length-set s.words (c + 1) n') (kept.word_first t b s.words c n') (λ z ne. kept.same_else t b s.words c n' z ne)
+        kept.cell_step t b s r id v w c ws (set s.homes c (some (Some x))) r.holder at (length-set s.words (word_of c) n') (kept.word_first t b s.words c n') (λ z ne. kept.same_else t b s.words c n' z ne)
             (length-set s.homes c (some (Some x))) (λ z ne. set_else s.homes c z (some (Some x)) ne) (λ _ _. refl) (kept.alone t b s r id v at c has) (λ z ne h. has_less c z v.held h ne) (λ _ _. refl) refl refl (λ _ h. h)
             record {
               base_is = ok.base_is;
@@ -219,36 +225,37 @@ module _ {C D Q G : Type 0} (t : Terms C D Q G) (b : Base Q G) where
         λ c' is. let e : c ≡ c' = omega arith in λ i. (freed v (e i), []),
       )
 
-  pub looked : (slots id : ℕ) (me : M) (c : ℕ) → c < length b.opening → b.hands ≤ 16 → Allows Rule slots id me (c + 1) (λ n. n) (looks t (at_step slots (c + 1) 0 0 none) me)
-  looked slots id me c inside hands s r deep at small = let v : V = me.0 in let ok = r.each_seat id v at in let n : ℕ = get_or s.words (c + 1) 0 in let w : V = record v { looked = (c, n) } in (
-    w,
-    keeps,
-    tt,
-    subst (λ (ws : List ℕ). Rule record { words = ws; homes = s.homes; views = set s.views id w }) (sym (set-get_or s.words (c + 1) 0))
-        (kept.unmoved t b s r id v w s.words at refl refl (λ _. (refl, refl, (λ h. h))) refl refl refl refl refl record {
-          base_is = ok.base_is;
-          unseen = ok.unseen;
-          sees = ok.sees;
-          told = ok.told;
-          once = ok.once;
-          apart = ok.apart;
-          numbers = ok.numbers;
-          acts = ok.acts;
-          turns = ok.turns;
-          clean = ok.clean;
-          covered = ok.covered;
-          fits = ok.fits;
-        }),
-    λ c' is. let e : c ≡ c' = omega (arith, is) in subst (λ (z : ℕ). (◌≡◌ {A = M} (w, me.1) (record v { looked = (z, n) }, me.1)) × Shows v z n) e (
-      refl,
-      record {
-        busy = λ has. (ok.turns c has).1;
-        pins = subst (λ (z : ℕ). times c v.pins ≤ z) (sym (r.each_cell c inside).pins) (total_one (λ (d : V). times c d.pins) s.views id v at);
-        clean = λ has. (ok.clean c has).1;
-        plain = kept.plain t b s r c inside hands;
-      },
-    ),
-  )
+  pub looked : (slots id : ℕ) (me : M) (c : ℕ) → c < length b.opening → b.hands ≤ 16 → Allows Rule slots id me (word_of c) (λ n. n) (looks t (at_step slots (word_of c) 0 0 none) me)
+  looked slots id me c inside hands s r deep at small = let v : V = me.0 in let ok = r.each_seat id v at in let n : ℕ = get_or s.words (word_of c) 0 in let w : V = record v { looked = (c, n); looks = v.looks + 1 } in
+      let plain = kept.plain t b s r c inside hands in let all_pins : pins_in n ≡ n / 256 = kept.pins_plain n plain in (
+        w,
+        keeps,
+        tt,
+        subst (λ (ws : List ℕ). Rule record { words = ws; homes = s.homes; views = set s.views id w }) (sym (set-get_or s.words (word_of c) 0))
+            (kept.unmoved t b s r id v w s.words at refl refl (λ _. (refl, refl, (λ h. h))) refl refl refl refl refl record {
+              base_is = ok.base_is;
+              unseen = ok.unseen;
+              sees = ok.sees;
+              told = ok.told;
+              once = ok.once;
+              apart = ok.apart;
+              numbers = ok.numbers;
+              acts = ok.acts;
+              turns = ok.turns;
+              clean = ok.clean;
+              covered = ok.covered;
+              fits = ok.fits;
+            }),
+        λ c' is. let e : c ≡ c' = omega (arith, is) in subst (λ (z : ℕ). (◌≡◌ {A = M} (w, me.1) (record v { looked = (z, n); looks = v.looks + 1 }, me.1)) × Shows v z n) e (
+          refl,
+          record {
+            busy = λ has. (ok.turns c has).1;
+            pins = subst (λ (z : ℕ). times c v.pins ≤ z) (sym (all_pins ∙ (r.each_cell c inside).pins)) (total_one (λ (d : V). times c d.pins) s.views id v at);
+            clean = λ has. all_pins ∙ (ok.clean c has).1;
+            plain = plain;
+          },
+        ),
+      )
 
   pub heard : (slots id i : ℕ) (me : M) → 0 < me.0.base.hands → Allows Rule slots id me i (λ n. n) (hears t (at_step slots i 0 0 none) me)
   heard slots id i me alive s r deep at small = let v : V = me.0 in let ok = r.each_seat id v at in let w : V = record v { seen = v.seen ++ ok.unseen; told = [] } in (
@@ -273,13 +280,13 @@ module _ {C D Q G : Type 0} (t : Terms C D Q G) (b : Base Q G) where
     (ok.unseen, refl, (kept.sees_all t b s r id v ok alive).0, (ok.told.0, sym ok.sees ∙ ok.told.1), kept.room_seen t b s r id v at alive),
   )
 
-  pub ref_gone : (slots id : ℕ) (me : M) (c k : ℕ) → c < length b.opening → k % 2 ≡ 1 → k / 4 ≡ 4611686018427387903 → Allows Rule slots id me (c + 1) (λ n. bit_and n k) (stays t (at_step slots (c + 1) k 0 none) me)
-  ref_gone slots id me c k inside odd_k rest_k s r deep at small = let v : V = me.0 in let n : ℕ = get_or s.words (c + 1) 0 in let n' : ℕ = bit_and n k in let ws : List ℕ = set s.words (c + 1) n' in let wide = r.wide in
+  pub ref_gone : (slots id : ℕ) (me : M) (c k : ℕ) → c < length b.opening → k % 2 ≡ 1 → k / 4 ≡ 4611686018427387903 → Allows Rule slots id me (word_of c) (λ n. bit_and n k) (stays t (at_step slots (word_of c) k 0 none) me)
+  ref_gone slots id me c k inside odd_k rest_k s r deep at small = let v : V = me.0 in let n : ℕ = get_or s.words (word_of c) 0 in let n' : ℕ = bit_and n k in let ws : List ℕ = set s.words (word_of c) n' in let wide = r.wide in
       let same = kept.same_there t b s.words c n' (omega arith) (and_odd n k odd_k) (and_pins n k small (omega (arith, rest_k))) (and_low n k small rest_k) in (
         v,
         keeps,
         tt,
-        kept.unmoved t b s r id v v ws at (length-set s.words (c + 1) n') (kept.word_first t b s.words c n') same refl refl refl refl refl
+        kept.unmoved t b s r id v v ws at (length-set s.words (word_of c) n') (kept.word_first t b s.words c n') same refl refl refl refl refl
             (kept.ok_again t b r.history s.words ws s.homes s.homes r.holder r.holder r.owner id v (r.each_seat id v at) (λ z _. ((same z).0, refl, refl)) (λ z _. (same z).1)),
         refl,
       )
@@ -292,17 +299,17 @@ module _ {C D Q G : Type 0} (t : Terms C D Q G) (b : Base Q G) where
   one_fewer n small enough = omega arith
 
   pub pin_made : (slots id : ℕ) (me : M) (c : ℕ) → c < length b.opening → b.hands ≤ 16 → Has c me.0.held → length me.0.pins < me.0.most
-      → Allows Rule slots id me (c + 1) (λ n. (n + 256) % 18446744073709551616) (pins_one t (at_step slots (c + 1) 256 0 none) me)
+      → Allows Rule slots id me (word_of c) (λ n. (n + 256) % 18446744073709551616) (pins_one t (at_step slots (word_of c) 256 0 none) me)
   pin_made slots id me c inside hands has room s r deep at small = let v : V = me.0 in let w : V = pinned v c in let ok = r.each_seat id v at in let y = ok.turns c has in
-      let n : ℕ = get_or s.words (c + 1) 0 in let n' : ℕ = (n + 256) % 18446744073709551616 in let ws : List ℕ = set s.words (c + 1) n' in let wide = r.wide in
+      let n : ℕ = get_or s.words (word_of c) 0 in let n' : ℕ = (n + 256) % 18446744073709551616 in let ws : List ℕ = set s.words (word_of c) n' in let wide = r.wide in
       let few = kept.few_pins t b s r c inside in let is : n' ≡ n + 256 = one_more n (omega arith) in
-      let now : get_or ws (c + 1) 0 ≡ n + 256 = get_or-set_same s.words (c + 1) n' 0 (omega arith) ∙ is in let o = r.each_cell c inside in
-      let busy_now : get_or ws (c + 1) 0 % 2 ≡ 1 = let odd = y.1 in ap (λ (z : ℕ). z % 2) now ∙ omega (arith, odd) in
-      let pins : get_or ws (c + 1) 0 / 256 ≡ n / 256 + 1 = ap (λ (z : ℕ). z / 256) now ∙ omega arith in let one = times_here c v.pins in (
+      let now : get_or ws (word_of c) 0 ≡ n + 256 = get_or-set_same s.words (word_of c) n' 0 (omega arith) ∙ is in let o = r.each_cell c inside in
+      let busy_now : get_or ws (word_of c) 0 % 2 ≡ 1 = let odd = y.1 in ap (λ (z : ℕ). z % 2) now ∙ omega (arith, odd) in
+      let pins : get_or ws (word_of c) 0 / 256 ≡ n / 256 + 1 = ap (λ (z : ℕ). z / 256) now ∙ omega arith in let one = times_here c v.pins in (
         w,
         keeps,
         tt,
-        kept.cell_step t b s r id v w c ws s.homes r.holder at (length-set s.words (c + 1) n') (kept.word_first t b s.words c n') (λ z ne. kept.same_else t b s.words c n' z ne)
+        kept.cell_step t b s r id v w c ws s.homes r.holder at (length-set s.words (word_of c) n') (kept.word_first t b s.words c n') (λ z ne. kept.same_else t b s.words c n' z ne)
             refl (λ _ _. refl) (λ _ _. refl) (kept.alone t b s r id v at c has) (λ _ _ h. h) (λ z ne. times_else z c v.pins ne) refl refl (λ _ h. h)
             record {
               base_is = ok.base_is;
@@ -313,11 +320,11 @@ module _ {C D Q G : Type 0} (t : Terms C D Q G) (b : Base Q G) where
               apart = ok.apart;
               numbers = ok.numbers;
               acts = ok.acts;
-              turns = λ z has_z. let u = ok.turns z has_z in (u.0, dite (ℕ_discrete z c) (λ (e : z ≡ c). ap (λ (q : ℕ). get_or ws (q + 1) 0 % 2) e ∙ busy_now) (λ (ne : z ≢ c). (kept.same_else t b s.words c n' z ne).0 ∙ u.1), u.2, u.3);
+              turns = λ z has_z. let u = ok.turns z has_z in (u.0, dite (ℕ_discrete z c) (λ (e : z ≡ c). ap (λ (q : ℕ). get_or ws (word_of q) 0 % 2) e ∙ busy_now) (λ (ne : z ≢ c). (kept.same_else t b s.words c n' z ne).0 ∙ u.1), u.2, u.3);
               clean = λ z has_z. let u = ok.clean z has_z in (
                 u.0,
                 dite (ℕ_discrete z c)
-                    (λ (e : z ≡ c). ap (λ (q : ℕ). get_or ws (q + 1) 0 / 256) e ∙ (pins ∙ (ap (λ (q : ℕ). q + 1) (ap (λ (q : ℕ). get_or s.words (q + 1) 0 / 256) (sym e) ∙ (u.1 ∙ ap (λ (q : ℕ). times q v.pins) e)) ∙ (sym one ∙ ap (λ (q : ℕ). times q w.pins) (sym e)))))
+                    (λ (e : z ≡ c). ap (λ (q : ℕ). get_or ws (word_of q) 0 / 256) e ∙ (pins ∙ (ap (λ (q : ℕ). q + 1) (ap (λ (q : ℕ). get_or s.words (word_of q) 0 / 256) (sym e) ∙ (u.1 ∙ ap (λ (q : ℕ). times q v.pins) e)) ∙ (sym one ∙ ap (λ (q : ℕ). times q w.pins) (sym e)))))
                     (λ (ne : z ≢ c). (kept.same_else t b s.words c n' z ne).1 ∙ (u.1 ∙ sym (times_else z c v.pins ne))),
               );
               covered = λ k has_k z. let u = ok.covered k has_k z in dite (ℕ_discrete z c)
@@ -335,19 +342,19 @@ module _ {C D Q G : Type 0} (t : Terms C D Q G) (b : Base Q G) where
       )
 
   pub pin_gone : (slots id : ℕ) (me : M) (c : ℕ) → c < length b.opening → 0 < times c me.0.pins → 0 < me.0.base.hands → ((k : ℕ) → Has k me.0.numbers → linked t me.0.base.grounds me.0.seen k c < times c me.0.pins)
-      → Allows Rule slots id me (c + 1) (λ n. (n + (18446744073709551616 - 256)) % 18446744073709551616) (unpins_one t (at_step slots (c + 1) 256 0 none) me)
+      → Allows Rule slots id me (word_of c) (λ n. (n + (18446744073709551616 - 256)) % 18446744073709551616) (unpins_one t (at_step slots (word_of c) 256 0 none) me)
   pin_gone slots id me c inside some_pin alive uncovered s r deep at small = let v : V = me.0 in let w : V = unpinned v c in let ok = r.each_seat id v at in
-      let n : ℕ = get_or s.words (c + 1) 0 in let n' : ℕ = (n + (18446744073709551616 - 256)) % 18446744073709551616 in let ws : List ℕ = set s.words (c + 1) n' in let wide = r.wide in
+      let n : ℕ = get_or s.words (word_of c) 0 in let n' : ℕ = (n + (18446744073709551616 - 256)) % 18446744073709551616 in let ws : List ℕ = set s.words (word_of c) n' in let wide = r.wide in
       let o = r.each_cell c inside in let old = o.pins in let mine = total_one (λ (d : V). times c d.pins) s.views id v at in let some_there : 256 ≤ n = omega (arith, old, mine, some_pin) in
       let is : n' + 256 ≡ n = one_fewer n small some_there in
-      let now : get_or ws (c + 1) 0 + 256 ≡ n = let z = get_or-set_same s.words (c + 1) n' 0 (omega arith) in ap (λ (q : ℕ). q + 256) z ∙ is in
-      let same : get_or ws (c + 1) 0 % 2 ≡ n % 2 = omega (arith, now) in
-      let pins : get_or ws (c + 1) 0 / 256 + 1 ≡ n / 256 = omega (arith, now) in let one = less_here c v.pins some_pin in
-      let same_odd : (z : ℕ) → get_or ws (z + 1) 0 % 2 ≡ get_or s.words (z + 1) 0 % 2 = (λ z. dite (ℕ_discrete z c) (λ (e : z ≡ c). subst (λ (q : ℕ). get_or ws (q + 1) 0 % 2 ≡ get_or s.words (q + 1) 0 % 2) (sym e) same) (λ (ne : z ≢ c). (kept.same_else t b s.words c n' z ne).0)) in (
+      let now : get_or ws (word_of c) 0 + 256 ≡ n = let z = get_or-set_same s.words (word_of c) n' 0 (omega arith) in ap (λ (q : ℕ). q + 256) z ∙ is in
+      let same : get_or ws (word_of c) 0 % 2 ≡ n % 2 = omega (arith, now) in
+      let pins : get_or ws (word_of c) 0 / 256 + 1 ≡ n / 256 = omega (arith, now) in let one = less_here c v.pins some_pin in
+      let same_odd : (z : ℕ) → get_or ws (word_of z) 0 % 2 ≡ get_or s.words (word_of z) 0 % 2 = (λ z. dite (ℕ_discrete z c) (λ (e : z ≡ c). subst (λ (q : ℕ). get_or ws (word_of q) 0 % 2 ≡ get_or s.words (word_of q) 0 % 2) (sym e) same) (λ (ne : z ≢ c). (kept.same_else t b s.words c n' z ne).0)) in (
         w,
         keeps,
         tt,
-        kept.turned t b s r id v w ws s.homes r.holder at (length-set s.words (c + 1) n') (kept.word_first t b s.words c n') refl refl refl (λ _ h. h)
+        kept.turned t b s r id v w ws s.homes r.holder at (length-set s.words (word_of c) n') (kept.word_first t b s.words c n') refl refl refl (λ _ h. h)
             record {
               base_is = ok.base_is;
               unseen = ok.unseen;
@@ -361,8 +368,8 @@ module _ {C D Q G : Type 0} (t : Terms C D Q G) (b : Base Q G) where
               clean = λ z has_z. let u = ok.clean z has_z in (
                 u.0,
                 dite (ℕ_discrete z c)
-                    (λ (e : z ≡ c). let mine' : n / 256 ≡ times c v.pins = subst (λ (q : ℕ). get_or s.words (q + 1) 0 / 256 ≡ times q v.pins) e u.1 in
-                    subst (λ (q : ℕ). get_or ws (q + 1) 0 / 256 ≡ times q w.pins) (sym e) (omega (arith, mine', pins, one)))
+                    (λ (e : z ≡ c). let mine' : n / 256 ≡ times c v.pins = subst (λ (q : ℕ). get_or s.words (word_of q) 0 / 256 ≡ times q v.pins) e u.1 in
+                    subst (λ (q : ℕ). get_or ws (word_of q) 0 / 256 ≡ times q w.pins) (sym e) (omega (arith, mine', pins, one)))
                     (λ (ne : z ≢ c). (kept.same_else t b s.words c n' z ne).1 ∙ (u.1 ∙ sym (less_else c z v.pins ne))),
               );
               covered = λ k has_k z. dite (ℕ_discrete z c)
@@ -372,7 +379,7 @@ module _ {C D Q G : Type 0} (t : Terms C D Q G) (b : Base Q G) where
             }
             (λ j d other there. let k = r.each_seat j d there in kept.ok_again t b r.history s.words ws s.homes s.homes r.holder r.holder r.owner j d k (λ z _. (same_odd z, refl, refl))
             (λ z has_z. dite (ℕ_discrete z c)
-            (λ (e : z ≡ c). let theirs : n / 256 ≡ times c d.pins = subst (λ (q : ℕ). get_or s.words (q + 1) 0 / 256 ≡ times q d.pins) e ((k.clean z has_z).1) in
+            (λ (e : z ≡ c). let theirs : n / 256 ≡ times c d.pins = subst (λ (q : ℕ). get_or s.words (word_of q) 0 / 256 ≡ times q d.pins) e ((k.clean z has_z).1) in
             let two = total_two (λ (x : V). times c x.pins) s.views id j v d (λ q. other (sym q)) at there in absurd (omega (arith, theirs, two, old, some_pin)))
             (λ (ne : z ≢ c). (kept.same_else t b s.words c n' z ne).1)))
             (λ z inside_z. dite (ℕ_discrete z c)
@@ -414,7 +421,7 @@ module _ {C D Q G : Type 0} (t : Terms C D Q G) (b : Base Q G) where
         let wide = r.wide in let stamps = r.stamps in let room = kept.room_of t b s r id v at in let some_left = can.left in let all = kept.sees_all t b s r id v ok alive in
         let next : top ≡ n + 1 = mod-eq_of_lt (omega arith) in
         let may = follows s r id v at alive e can in
-        let same : (k : ℕ) → kept.SameWord t b ws s.words k = (λ k. let z = get_or-set_other s.words 0 (k + 1) top 0 (λ q. omega arith) in (ap (λ (y : ℕ). y % 2) z, ap (λ (y : ℕ). y / 256) z, subst (λ (y : ℕ). y % 256 < 4) (sym z))) in
+        let same : (k : ℕ) → kept.SameWord t b ws s.words k = (λ k. let z = get_or-set_other s.words 0 (word_of k) top 0 (λ q. omega arith) in (ap (λ (y : ℕ). y % 2) z, ap (λ (y : ℕ). y / 256) z, subst (λ (y : ℕ). y % 256 < 4) (sym z))) in
         let longer : length h' ≡ length h + 1 = length-append h (e ∷ []) in
         let legal : LegalFrom t b.grounds (opened t b) no_link h' = legal_append t b.grounds (opened t b) no_link h (e ∷ []) r.legal (may, tt) in
         let seen_is : v.seen ++ ok.unseen ≡ h = sym ok.sees in let seen_then : (v.seen ++ ok.unseen) ++ e ∷ [] ≡ h' = ap (λ (z : List E). z ++ e ∷ []) seen_is in
@@ -469,7 +476,7 @@ module _ {C D Q G : Type 0} (t : Terms C D Q G) (b : Base Q G) where
                   fits = k.fits;
                 });
             each_cell = λ c inside. let o = r.each_cell c inside in record {
-              free = λ even. let x = o.free (sym ((same c).0) ∙ even) in let not_in : Has c (map (λ k. k.0) e.kept) → ⊥ = (λ q. let u = ok.turns c (can.held c (subst (Has c) can.cells q)) in let odd = u.1 in let even' : get_or s.words (c + 1) 0 % 2 ≡ 0 = sym ((same c).0) ∙ even in omega (arith, odd, even')) in
+              free = λ even. let x = o.free (sym ((same c).0) ∙ even) in let not_in : Has c (map (λ k. k.0) e.kept) → ⊥ = (λ q. let u = ok.turns c (can.held c (subst (Has c) can.cells q)) in let odd = u.1 in let even' : get_or s.words (word_of c) 0 % 2 ≡ 0 = sym ((same c).0) ∙ even in omega (arith, odd, even')) in
                   (x.0, x.1, x.2 ∙ sym (ap (λ (f : ℕ → Q). f c) (made_append (opened t b) h (e ∷ [])) ∙ put_else e.kept (made t b h) c not_in));
               busy = λ odd. let x = o.busy (sym ((same c).0) ∙ odd) in kept.still t b (λ (d : V). Has c d.held) s.views id (r.holder c) v w x.0 at x.1 x.2 (λ z. z);
               pins = (same c).1 ∙ (o.pins ∙ sym (total_same (λ (d : V). times c d.pins) s.views id v w at refl));

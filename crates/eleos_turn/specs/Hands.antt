@@ -13,7 +13,7 @@ use Rattle.eleos_turn.specs.declared.answers.Refused.{Refused}
 use Rattle.eleos_turn.specs.declared.view.View.{View}
 use Rattle.eleos_turn.specs.declared.view.Key.{Key}
 use Rattle.eleos_turn.specs.Numbers.{without, less_one, times, numbers_of, most_of}
-use Rattle.eleos_turn.specs.Words.{pins_in}
+use Rattle.eleos_base.specs.Words.{pins_in}
 use Rattle.eleos_turn.specs.Rule.{Apart, base_of}
 
 -- a turnstile: which table it is, and what was fixed when it was made
@@ -36,8 +36,12 @@ pub record HandState (D Q G : Type 0) : Type 0 where
   pub pins : List ℕ
   -- the cell that it looked at last, and the word that it found
   pub looked : ℕ × ℕ
+  -- how often it looked
+  pub looks : ℕ
   -- the cell whose turn it tried to take last, and the word that it found
   pub tried : ℕ × ℕ
+  -- how many tries found a cell busy, those of a take that waits left out
+  pub misses : ℕ
   -- the stamps that it may still make
   pub left : ℕ
   pub refused : Refused
@@ -55,7 +59,7 @@ no_refusal = record { count = 0; cell = 0; word = 0 }
 module _ {D Q G : Type 0} where
   -- the hand with the number k, before it has seen anything
   abbrev pub fresh : Home Q G → ℕ → HandState D Q G
-  fresh z k = record { home = z; number = k; seen = []; turns = []; clean = []; pins = []; looked = (0, 0); tried = (0, 0); left = z.base.each; refused = no_refusal }
+  fresh z k = record { home = z; number = k; seen = []; turns = []; clean = []; pins = []; looked = (0, 0); looks = 0; tried = (0, 0); misses = 0; left = z.base.each; refused = no_refusal }
 
   -- the n hands with the numbers above a, before they have seen anything
   abbrev pub dealt : Home Q G → ℕ → ℕ → List (HandState D Q G)
@@ -64,7 +68,7 @@ module _ {D Q G : Type 0} where
 
   -- a hand of `split`: it has seen as much, and may do nothing
   abbrev pub split_of : HandState D Q G → HandState D Q G
-  split_of s = record { home = s.home; number = 0; seen = s.seen; turns = []; clean = []; pins = []; looked = (0, 0); tried = (0, 0); left = 0; refused = no_refusal }
+  split_of s = record { home = s.home; number = 0; seen = s.seen; turns = []; clean = []; pins = []; looked = (0, 0); looks = 0; tried = (0, 0); misses = 0; left = 0; refused = no_refusal }
 
   -- the hand after it took the turn of c with the word n, and after others made these entries
   abbrev pub with_turn : HandState D Q G → List (Event D Q) → ℕ → ℕ → HandState D Q G
@@ -85,17 +89,21 @@ module _ {D Q G : Type 0} where
   abbrev pub without_pin : HandState D Q G → ℕ → HandState D Q G
   without_pin s c = record s { pins = less_one c s.pins }
 
+  -- the hand after it looked at the cell, and found this word
+  abbrev pub looked_at : HandState D Q G → ℕ → ℕ → HandState D Q G
+  looked_at s c n = record s { looked = (c, n); looks = s.looks + 1 }
+
   -- the hand after a try found the cell busy, with this word
   abbrev pub refused_at : HandState D Q G → ℕ → ℕ → HandState D Q G
-  refused_at s c n = record s { tried = (c, n); refused = record { count = min (s.refused.count + 1) (2 ^ 64 - 1); cell = c; word = n } }
+  refused_at s c n = record s { tried = (c, n); misses = s.misses + 1; refused = record { count = min (s.refused.count + 1) (2 ^ 64 - 1); cell = c; word = n } }
 
   -- what a seat of this table and this number is, as contracts see it
   abbrev pub state_of : TableId → ℕ → Refused → View D Q G → HandState D Q G
-  state_of z k r v = record { home = record { table = z; base = v.base }; number = k; seen = v.seen; turns = v.held; clean = v.clean; pins = v.pins; looked = v.looked; tried = v.tried; left = v.left; refused = r }
+  state_of z k r v = record { home = record { table = z; base = v.base }; number = k; seen = v.seen; turns = v.held; clean = v.clean; pins = v.pins; looked = v.looked; looks = v.looks; tried = v.tried; misses = v.misses; left = v.left; refused = r }
 
   -- the view of the seat of a hand
   abbrev pub view_of : HandState D Q G → View D Q G
-  view_of s = record { base = s.home.base; numbers = numbers_of s.number; seen = s.seen; held = s.turns; clean = s.clean; moving = 0; pins = s.pins; told = []; looked = s.looked; tried = s.tried; left = s.left; most = most_of s.number }
+  view_of s = record { base = s.home.base; numbers = numbers_of s.number; seen = s.seen; held = s.turns; clean = s.clean; moving = 0; pins = s.pins; told = []; looked = s.looked; looks = s.looks; tried = s.tried; misses = s.misses; left = s.left; most = most_of s.number }
 
 module _ {C D Q G : Type 0} (t : Terms C D Q G) where
   -- the turnstile of this table and key
@@ -149,6 +157,7 @@ module _ {C D Q G : Type 0} (t : Terms C D Q G) where
     pub once : (c : ℕ) → times c s.turns ≤ 1
     pub clean : (c : ℕ) → Has c s.clean → Has c s.turns
     pub few : length s.pins ≤ most_of s.number
+    pub missed : s.refused.count ≡ min s.misses (2 ^ 64 - 1)
     pub idle : s.number ≡ 0 → (s.turns ≡ []) × (s.pins ≡ []) × (s.left ≡ 0)
 
   -- the turn of c was taken, with the word n and the value x, and no turn was given up

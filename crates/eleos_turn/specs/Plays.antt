@@ -9,7 +9,8 @@ use Rattle.eleos_turn.specs.declared.view.View.{View}
 use Rattle.eleos_turn.specs.Numbers.{times}
 use Rattle.eleos_turn.specs.Views.{busied, moved, freed, stamped, pinned, unpinned, Room}
 use Rattle.eleos_turn.specs.Rule.{Apart}
-use Rattle.eleos_turn.specs.Words.{IsBusy, IsPlain, pins_in}
+use Rattle.eleos_base.specs.Words.{IsBusy, IsPlain, pins_in}
+use Rattle.eleos_turn.specs.Words.{word_of}
 
 module _ {D Q G : Type 0} where
   -- what the word n of the cell c shows to the seat
@@ -34,9 +35,10 @@ module _ {C D Q G : Type 0} (t : Terms C D Q G) where
   abbrev pub Turn : ℕ → ℕ → Sat → Sat → Type 0
   Turn c n m m' = (more : List (Event D Q)) × (x : C) × (m' ≡ (busied m.0 more c n, (c, Some x) ∷ m.1)) × SeesMore m.0 more × (t.part x ≡ made t m.0.base (m.0.seen ++ more) c) × Room (busied m.0 more c n) × (length m.0.held < length m.0.base.opening)
 
-  -- the word was odd and is noted, or the turn was taken
-  abbrev pub takes_turn : At → Sat → ℕ → Sat → Type 0
-  takes_turn st m n m' = (n % 2 ≡ 1 → (c : ℕ) → st.word ≡ c + 1 → m' ≡ (record m.0 { tried = (c, n) }, m.1)) × (n % 2 ≡ 0 → (c : ℕ) → st.word ≡ c + 1 → Turn c n m m') × IsPlain n
+  -- the word was odd, and is noted and counted, or the turn was taken; the word counts the seat's own pins
+  abbrev pub takes_turn : (ℕ → ℕ) → At → Sat → ℕ → Sat → Type 0
+  takes_turn missed st m n m' = (n % 2 ≡ 1 → (c : ℕ) → st.word ≡ word_of c → m' ≡ (record m.0 { tried = (c, n); misses = missed m.0.misses }, m.1)) × (n % 2 ≡ 0 → (c : ℕ) → st.word ≡ word_of c → Turn c n m m') × IsPlain n
+      × ((c : ℕ) → st.word ≡ word_of c → times c m.0.pins ≤ pins_in n)
 
   -- the slot that was carried is back
   abbrev pub lays : At → Sat → ℕ → Sat → Type 0
@@ -44,19 +46,19 @@ module _ {C D Q G : Type 0} (t : Terms C D Q G) where
 
   -- the slot of a cell whose turn it has is out
   abbrev pub fetches : At → Sat → ℕ → Sat → Type 0
-  fetches st m n m' = (c : ℕ) → st.word ≡ c + 1 → m' ≡ (moved m.0 (c + 1), (c, None) ∷ m.1)
+  fetches st m n m' = (c : ℕ) → st.word ≡ word_of c → m' ≡ (moved m.0 (c + 1), (c, None) ∷ m.1)
 
   -- the slot that was carried is back, and the turn is given up
   abbrev pub gives_turn : At → Sat → ℕ → Sat → Type 0
-  gives_turn st m n m' = (c : ℕ) → st.word ≡ c + 1 → m' ≡ (freed m.0 c, [])
+  gives_turn st m n m' = (c : ℕ) → st.word ≡ word_of c → m' ≡ (freed m.0 c, [])
 
   -- nothing changes for the seat
   abbrev pub stays : At → Sat → ℕ → Sat → Type 0
   stays st m n m' = m' ≡ m
 
-  -- the word that was found is noted
+  -- the word that was found is noted, and the look counted
   abbrev pub looks : At → Sat → ℕ → Sat → Type 0
-  looks st m n m' = (c : ℕ) → st.word ≡ c + 1 → (m' ≡ (record m.0 { looked = (c, n) }, m.1)) × Shows m.0 c n
+  looks st m n m' = (c : ℕ) → st.word ≡ word_of c → (m' ≡ (record m.0 { looked = (c, n); looks = m.0.looks + 1 }, m.1)) × Shows m.0 c n
 
   -- the whole history is seen, and what was told begins it
   abbrev pub hears_all : Sat → Sat → Type 0
@@ -69,11 +71,11 @@ module _ {C D Q G : Type 0} (t : Terms C D Q G) where
 
   -- one pin more
   abbrev pub pins_one : At → Sat → ℕ → Sat → Type 0
-  pins_one st m n m' = (c : ℕ) → st.word ≡ c + 1 → m' ≡ (pinned m.0 c, m.1)
+  pins_one st m n m' = (c : ℕ) → st.word ≡ word_of c → m' ≡ (pinned m.0 c, m.1)
 
   -- one pin less
   abbrev pub unpins_one : At → Sat → ℕ → Sat → Type 0
-  unpins_one st m n m' = (c : ℕ) → st.word ≡ c + 1 → m' ≡ (unpinned m.0 c, m.1)
+  unpins_one st m n m' = (c : ℕ) → st.word ≡ word_of c → m' ≡ (unpinned m.0 c, m.1)
 
   -- the event that was asked for is the last of what is seen then
   abbrev pub stamps_one : List (Event D Q) → At → Sat → ℕ → Sat → Type 0

@@ -13,6 +13,7 @@ use Rattle.eleos_base.specs.Histories.{made, linked, Legal, Signed}
 use Rattle.eleos_turn.specs.declared.view.View.{View}
 use Rattle.eleos_turn.specs.declared.view.Key.{Key}
 use Rattle.eleos_turn.specs.Numbers.{times, total, most_pins}
+use Rattle.eleos_turn.specs.Words.{word_of, words_for}
 
 -- the value that was told
 abbrev pub told_in : {G : Type 0} → G → List G → G
@@ -31,7 +32,7 @@ module _ {C D Q G : Type 0} (t : Terms C D Q G) where
 
   -- a seat that was joined into another
   abbrev pub gone : View D Q G
-  gone = record { base = record { grounds = t.nowhere; opening = []; hands = 0; each = 0 }; numbers = []; seen = []; held = []; clean = []; moving = 0; pins = []; told = []; looked = (0, 0); tried = (0, 0); left = 0; most = 0 }
+  gone = record { base = record { grounds = t.nowhere; opening = []; hands = 0; each = 0 }; numbers = []; seen = []; held = []; clean = []; moving = 0; pins = []; told = []; looked = (0, 0); looks = 0; tried = (0, 0); misses = 0; left = 0; most = 0 }
 
   -- what the seat j knows is so
   pub record SeatOk (b : Base Q G) (h : List (Event D Q)) (words : List ℕ) (homes : List (maybe.Option (Option C))) (holder owner : ℕ → ℕ) (j : ℕ) (v : View D Q G) : Type 0 where
@@ -43,24 +44,24 @@ module _ {C D Q G : Type 0} (t : Terms C D Q G) where
     pub numbers : (n : ℕ) → Has n v.numbers → (owner n ≡ j) × (0 < n) × (n ≤ b.hands)
     pub once : (c : ℕ) → times c v.held ≤ 1
     pub acts : (c : ℕ) → Has c v.held → (n : ℕ) × Has n v.numbers
-    pub turns : (c : ℕ) → Has c v.held → (c < length b.opening) × (slice_index words (c + 1) % 2 ≡ 1) × (holder c ≡ j) × (v.moving ≢ c + 1 → get_elem? homes c ≡ some (some None))
-    pub clean : (c : ℕ) → Has c v.clean → Has c v.held × (slice_index words (c + 1) / 256 ≡ times c v.pins)
+    pub turns : (c : ℕ) → Has c v.held → (c < length b.opening) × (slice_index words (word_of c) % 2 ≡ 1) × (holder c ≡ j) × (v.moving ≢ c + 1 → get_elem? homes c ≡ some (some None))
+    pub clean : (c : ℕ) → Has c v.clean → Has c v.held × (slice_index words (word_of c) / 256 ≡ times c v.pins)
     pub covered : (k : ℕ) → Has k v.numbers → (c : ℕ) → linked t b.grounds v.seen k c ≤ times c v.pins
     pub fits : length v.pins ≤ v.most
 
   -- the cell c is at home and what the history made of it, or one seat has its turn
   pub record CellOk (b : Base Q G) (h : List (Event D Q)) (words : List ℕ) (homes : List (maybe.Option (Option C))) (views : List (View D Q G)) (holder : ℕ → ℕ) (c : ℕ) : Type 0 where
-    pub free : slice_index words (c + 1) % 2 ≡ 0 → (x : C) × (get_elem? homes c ≡ some (some (Some x))) × (t.part x ≡ made t b h c)
-    pub busy : slice_index words (c + 1) % 2 ≡ 1 → (v : View D Q G) × (get_elem? views (holder c) ≡ some v) × Has c v.held
-    pub pins : slice_index words (c + 1) / 256 ≡ total (λ v. times c v.pins) views
-    pub low : slice_index words (c + 1) % 256 < 4
+    pub free : slice_index words (word_of c) % 2 ≡ 0 → (x : C) × (get_elem? homes c ≡ some (some (Some x))) × (t.part x ≡ made t b h c)
+    pub busy : slice_index words (word_of c) % 2 ≡ 1 → (v : View D Q G) × (get_elem? views (holder c) ≡ some v) × Has c v.held
+    pub pins : slice_index words (word_of c) / 256 ≡ total (λ v. times c v.pins) views
+    pub low : slice_index words (word_of c) % 256 < 4
 
   -- there is one legal history, of the length in word 0, and each seat has seen a beginning of it
   pub record Kept (b : Base Q G) (s : State (Option C) (View D Q G)) : Type 0 where
     pub history : List (Event D Q)
     pub holder : ℕ → ℕ
     pub owner : ℕ → ℕ
-    pub wide : length s.words ≡ length b.opening + 1
+    pub wide : length s.words ≡ words_for (length b.opening)
     pub deep : length s.homes ≡ length b.opening
     pub stamps : slice_index s.words 0 ≡ length history
     pub legal : Legal t b history
@@ -80,6 +81,6 @@ module _ {C D Q G : Type 0} (t : Terms C D Q G) where
 abbrev pub IsAtRest : {S D Q G : Type 0} → Me S (View D Q G) → Type 0
 IsAtRest m = (m.1 ≡ []) × (m.0.moving ≡ 0)
 
--- the turnstile's table has a word and a slot for each cell, and a word for the history
+-- the turnstile's table has words for so many cells and the history, and a slot for each cell
 abbrev pub IsSized : {C G : Type 0} → TableId → Key C G → Type 0
-IsSized z k = (z.words ≡ length k.cells.value.items + 1) × (z.slots ≡ length k.cells.value.items) × (k.hands * k.each < 2 ^ 64) × (k.hands ≤ 16) × (length k.cells.value.items < 2 ^ 31)
+IsSized z k = (z.words ≡ words_for (length k.cells.value.items)) × (z.slots ≡ length k.cells.value.items) × (k.hands * k.each < 2 ^ 64) × (k.hands ≤ 16) × (length k.cells.value.items < 2 ^ 31)

@@ -4,20 +4,20 @@ use Rattle.eleos_base.specs.declared.plot.Event.{Event}
 use Rattle.eleos_base.specs.declared.plot.Base.{Base}
 use Rattle.eleos_turn.specs.declared.view.View.{View}
 use Rattle.eleos_turn.specs.Numbers.{without, less_one, above, first_of, rest_of, longer, shorter, most_pins}
-use Rattle.eleos_turn.specs.Words.{pins_in}
+use Rattle.eleos_base.specs.Words.{pins_in}
 
 module _ {D Q G : Type 0} where
   -- the hands with the n numbers above a, before they have seen anything
   abbrev pub dealing : Base Q G → ℕ → ℕ → View D Q G
-  dealing b a n = record { base = b; numbers = above a n; seen = []; held = []; clean = []; moving = 0; pins = []; told = []; looked = (0, 0); tried = (0, 0); left = n * b.each; most = n * most_pins }
+  dealing b a n = record { base = b; numbers = above a n; seen = []; held = []; clean = []; moving = 0; pins = []; told = []; looked = (0, 0); looks = 0; tried = (0, 0); misses = 0; left = n * b.each; most = n * most_pins }
 
   -- the hand with the number k, before it has seen anything
   abbrev pub hand_of : Base Q G → ℕ → View D Q G
-  hand_of b k = record { base = b; numbers = k ∷ []; seen = []; held = []; clean = []; moving = 0; pins = []; told = []; looked = (0, 0); tried = (0, 0); left = b.each; most = most_pins }
+  hand_of b k = record { base = b; numbers = k ∷ []; seen = []; held = []; clean = []; moving = 0; pins = []; told = []; looked = (0, 0); looks = 0; tried = (0, 0); misses = 0; left = b.each; most = most_pins }
 
   -- a hand that has seen as much, and may do nothing
   abbrev pub noted : View D Q G → View D Q G
-  noted v = record { base = v.base; numbers = []; seen = v.seen; held = []; clean = []; moving = 0; pins = []; told = []; looked = (0, 0); tried = (0, 0); left = 0; most = 0 }
+  noted v = record { base = v.base; numbers = []; seen = v.seen; held = []; clean = []; moving = 0; pins = []; told = []; looked = (0, 0); looks = 0; tried = (0, 0); misses = 0; left = 0; most = 0 }
 
   -- the hands that are left where the first of them is dealt
   abbrev pub dealt_from : View D Q G → View D Q G
@@ -25,7 +25,7 @@ module _ {D Q G : Type 0} where
 
   -- the first of them
   abbrev pub dealt_to : View D Q G → View D Q G
-  dealt_to v = record { base = v.base; numbers = first_of v.numbers; seen = []; held = []; clean = []; moving = 0; pins = []; told = []; looked = (0, 0); tried = (0, 0); left = v.base.each; most = most_pins }
+  dealt_to v = record { base = v.base; numbers = first_of v.numbers; seen = []; held = []; clean = []; moving = 0; pins = []; told = []; looked = (0, 0); looks = 0; tried = (0, 0); misses = 0; left = v.base.each; most = most_pins }
 
   -- what two seats know together, where the second has no turn
   abbrev pub joined : View D Q G → View D Q G → View D Q G

@@ -1,23 +1,10 @@
--- The parts of a cell's word: bit 0 is BUSY, bit 1 is REF, and the pins are from bit 8 on.
-use Rattle.std.specs.Prelude.{◌≡◌, ℕ, ◌/◌, ◌%◌, ◌^◌, ◌<◌}
+-- Where the words of a table lie: word 0 is the length of the history, and each cell has one.
+use Rattle.std.specs.Prelude.{ℕ, ◌+◌, ◌*◌}
 
--- somebody has the turn
-abbrev pub IsBusy : ℕ → Type 0
-IsBusy n = n % 2 ≡ 1
+-- which word of the table is the cell's: each eighth, so that no two lie in one line of 64 bytes
+abbrev pub word_of : ℕ → ℕ
+word_of c = (c + 1) * 8
 
--- nobody has the turn
-abbrev pub IsFree : ℕ → Type 0
-IsFree n = n % 2 ≡ 0
-
--- it was touched since the mark was cleared
-abbrev pub IsReferenced : ℕ → Type 0
-IsReferenced n = n / 2 % 2 ≡ 1
-
--- the pins of all hands on the cell
-abbrev pub pins_in : ℕ → ℕ
-pins_in n = n / 256
-
--- bits 2 to 7 and those from 40 on are 0
-pub record IsPlain (n : ℕ) : Type 0 where
-  pub low : n % 256 < 4
-  pub high : n < 2 ^ 40
+-- the words of the table for the history and n cells
+abbrev pub words_for : ℕ → ℕ
+words_for n = (n + 1) * 8

@@ -118,7 +118,9 @@ impl<P: Plot> Hand<P> {
     /// Puts the hand to rest.
     pub fn rest(self) -> RestHand<P>
         requires { self.turns ≡ [] }
-        ensures { result ≡ self }
+        ensures same { result ≡ self }
+        ensures idle { result.turns ≡ [] }
+        ensures sound { IsSound P.terms result }
     {
         let Hand {
             seat,
@@ -155,9 +157,11 @@ impl<P: Plot> Hand<P> {
 }
 
 impl<P: Plot> RestHand<P> {
-    /// The hand again.
+    /// The hand again, which has no turn.
     pub fn wake(self) -> Hand<P>
-        ensures { result ≡ self }
+        ensures same { result ≡ self }
+        ensures idle { result.turns ≡ [] }
+        ensures sound { IsSound P.terms result }
     {
         let RestHand {
             badge,

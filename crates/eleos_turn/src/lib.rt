@@ -3,22 +3,17 @@
 
 mod answers;
 mod closing;
-mod counters;
 mod hand;
 mod making;
 mod plays;
-mod shelves;
+mod slot;
 mod table;
 mod told;
 mod turnstile;
 mod view;
-mod word;
 
 pub use answers::{Busy, Refused, Taken};
 pub use closing::{Closed, HandsRefused};
+pub use eleos_base::CellWord;
 pub use hand::{Hand, RestHand};
 pub use turnstile::Turnstile;
-pub use word::CellWord;
-
-#[cfg(test)]
-mod tests;

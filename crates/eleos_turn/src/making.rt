@@ -7,7 +7,8 @@ ghost use Rattle.eleos_turn.specs.Hands.{dealt, home_of};
 use crate::answers::Refused;
 use crate::hand::Hand;
 use crate::plays::Deal;
-use crate::table::CellTable;
+use crate::slot::Slot;
+use crate::table::{APART, CellTable};
 use crate::told::tell;
 use crate::turnstile::Turnstile;
 use crate::view::{Key, Place};
@@ -44,7 +45,7 @@ impl<P: Plot> Turnstile<P> {
         let Ok(slots) = in_slots(alloc, cells) else {
             return Err(NoMemory);
         };
-        let Ok(words) = zeros(alloc, count + 1) else {
+        let Ok(words) = zeros(alloc, (count + 1) * APART) else {
             return Err(NoMemory);
         };
         let Ok((table, mut seat)) = Table::new(alloc, words.as_slice(), slots, &key) else {
@@ -97,14 +98,14 @@ fn deal<P: Plot>(
     Ok(dealt)
 }
 
-fn in_slots<C: Drop>(alloc: Global, cells: Vec<C>) -> Result<Vec<Option<C>>, NoMemory>
+fn in_slots<C: Drop>(alloc: Global, cells: Vec<C>) -> Result<Vec<Slot<C>>, NoMemory>
     ensures { IfOk result (λ r. r.items ≡ map Some cells.items) }
 {
     let Ok(mut slots) = Vec::with_capacity(alloc, cells.len()) else {
         return Err(NoMemory);
     };
     for cell in cells {
-        let Ok(()) = slots.push(Some(cell)) else {
+        let Ok(()) = slots.push(Slot::of(Some(cell))) else {
             return Err(NoMemory);
         };
     }

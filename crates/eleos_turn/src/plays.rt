@@ -3,24 +3,25 @@ ghost use Rattle.eleos_turn.specs.Plays.{takes_turn, lays, fetches, gives_turn, 
 ghost use Rattle.eleos_turn.specs.Views.{dealt_from, dealt_to, noted, joined, harked};
 ghost use Rattle.eleos_turn.specs.Rule.{gone};
 
-use crate::view::{Asked, View};
+use crate::slot::Slot;
+use crate::view::{Asked, Missed, View};
 use atomic_table::{Join, Play, Split};
 use eleos_base::Plot;
 use std::marker::PhantomData;
 
-pub(crate) struct Take<P> {
-    plot: PhantomData<P>,
+pub(crate) struct Take<P, N> {
+    plot: PhantomData<(P, N)>,
 }
 
-impl<P: Plot> Play<Option<P::Cell>, View<P::Draft, P::Part, P::Ground>> for Take<P> {
-    ghost then = { takes_turn P.terms };
+impl<P: Plot, N: Missed> Play<Slot<P::Cell>, View<P::Draft, P::Part, P::Ground>> for Take<P, N> {
+    ghost then = { takes_turn P.terms N.missed };
 }
 
 pub(crate) struct Lay<P> {
     plot: PhantomData<P>,
 }
 
-impl<P: Plot> Play<Option<P::Cell>, View<P::Draft, P::Part, P::Ground>> for Lay<P> {
+impl<P: Plot> Play<Slot<P::Cell>, View<P::Draft, P::Part, P::Ground>> for Lay<P> {
     ghost then = { lays P.terms };
 }
 
@@ -28,7 +29,7 @@ pub(crate) struct Fetch<P> {
     plot: PhantomData<P>,
 }
 
-impl<P: Plot> Play<Option<P::Cell>, View<P::Draft, P::Part, P::Ground>> for Fetch<P> {
+impl<P: Plot> Play<Slot<P::Cell>, View<P::Draft, P::Part, P::Ground>> for Fetch<P> {
     ghost then = { fetches P.terms };
 }
 
@@ -36,7 +37,7 @@ pub(crate) struct Give<P> {
     plot: PhantomData<P>,
 }
 
-impl<P: Plot> Play<Option<P::Cell>, View<P::Draft, P::Part, P::Ground>> for Give<P> {
+impl<P: Plot> Play<Slot<P::Cell>, View<P::Draft, P::Part, P::Ground>> for Give<P> {
     ghost then = { gives_turn P.terms };
 }
 
@@ -44,7 +45,7 @@ pub(crate) struct Look<P> {
     plot: PhantomData<P>,
 }
 
-impl<P: Plot> Play<Option<P::Cell>, View<P::Draft, P::Part, P::Ground>> for Look<P> {
+impl<P: Plot> Play<Slot<P::Cell>, View<P::Draft, P::Part, P::Ground>> for Look<P> {
     ghost then = { looks P.terms };
 }
 
@@ -52,7 +53,7 @@ pub(crate) struct Unref<P> {
     plot: PhantomData<P>,
 }
 
-impl<P: Plot> Play<Option<P::Cell>, View<P::Draft, P::Part, P::Ground>> for Unref<P> {
+impl<P: Plot> Play<Slot<P::Cell>, View<P::Draft, P::Part, P::Ground>> for Unref<P> {
     ghost then = { stays P.terms };
 }
 
@@ -60,7 +61,7 @@ pub(crate) struct Know<P> {
     plot: PhantomData<P>,
 }
 
-impl<P: Plot> Play<Option<P::Cell>, View<P::Draft, P::Part, P::Ground>> for Know<P> {
+impl<P: Plot> Play<Slot<P::Cell>, View<P::Draft, P::Part, P::Ground>> for Know<P> {
     ghost then = { hears P.terms };
 }
 
@@ -68,7 +69,7 @@ pub(crate) struct Pin<P> {
     plot: PhantomData<P>,
 }
 
-impl<P: Plot> Play<Option<P::Cell>, View<P::Draft, P::Part, P::Ground>> for Pin<P> {
+impl<P: Plot> Play<Slot<P::Cell>, View<P::Draft, P::Part, P::Ground>> for Pin<P> {
     ghost then = { pins_one P.terms };
 }
 
@@ -76,7 +77,7 @@ pub(crate) struct Unpin<P> {
     plot: PhantomData<P>,
 }
 
-impl<P: Plot> Play<Option<P::Cell>, View<P::Draft, P::Part, P::Ground>> for Unpin<P> {
+impl<P: Plot> Play<Slot<P::Cell>, View<P::Draft, P::Part, P::Ground>> for Unpin<P> {
     ghost then = { unpins_one P.terms };
 }
 
@@ -84,7 +85,7 @@ pub(crate) struct Stamp<P, N> {
     plot: PhantomData<(P, N)>,
 }
 
-impl<P: Plot, N: Asked<P::Draft, P::Part>> Play<Option<P::Cell>, View<P::Draft, P::Part, P::Ground>>
+impl<P: Plot, N: Asked<P::Draft, P::Part>> Play<Slot<P::Cell>, View<P::Draft, P::Part, P::Ground>>
     for Stamp<P, N> {
     ghost then = { stamps_one P.terms N.asked };
 }

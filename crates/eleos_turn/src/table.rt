@@ -5,22 +5,25 @@ ghost use lib.ListN.{get_elem?};
 ghost use Rattle.eleos_base.specs.Ties.{Has};
 ghost use Rattle.eleos_base.specs.Histories.{made};
 ghost use Rattle.eleos_turn.specs.Rule.{IsSized, IsAtRest};
-ghost use Rattle.eleos_turn.specs.Words.{IsPlain};
+ghost use Rattle.eleos_base.specs.Words.{IsPlain, pins_in};
 
 use crate::answers::Taken;
 use crate::plays::{
     Fetch, Give, Hark, Hear, Know, Lay, Look, Note, Pin, Stamp, Take, Unpin, Unref,
 };
-use crate::view::{Asked, Key, Place, Turns, View};
-use crate::word::{BUSY, PIN, REF};
+use crate::slot::Slot;
+use crate::view::{Asked, Key, Missed, Place, Turns, View, Waits};
 use atomic_table::Table;
 use crossbeam_utils::Backoff;
-use eleos_base::{Event, Plot};
+use eleos_base::{BUSY, Event, PIN, Plot, REF};
 use std::alloc::Global;
 use std::sync::Wait;
 
+/// The words of two cells lie so many words apart: 64 bytes, a line of the processor's cache.
+pub(crate) const APART: usize = 8;
+
 pub(crate) type Shared<P> = Table<
-    Option<<P as Plot>::Cell>,
+    Slot<<P as Plot>::Cell>,
     View<<P as Plot>::Draft, <P as Plot>::Part, <P as Plot>::Ground>,
     Key<<P as Plot>::Cell, <P as Plot>::Ground>,
     Turns<P>,
@@ -56,7 +59,7 @@ impl<P: Plot> CellTable<P> {
     }
 
     // One try: the turn, or the word that showed it taken.
-    pub(crate) fn attempt(
+    pub(crate) fn attempt<N: Missed>(
         &self,
         seat: &mut Place<P>,
         cell: u32,
@@ -67,22 +70,28 @@ impl<P: Plot> CellTable<P> {
         requires rests { IsAtRest seat.old.me }
         requires made { ((n : ℕ) × Has n seat.old.me.0.numbers) × (0 < seat.old.me.0.base.hands) }
         ensures same { (seat.new.table_id ≡ seat.old.table_id) × (seat.new.id ≡ seat.old.id) × IsAtRest seat.new.me }
-        ensures took { MatchResult result (λ t. (t.word % 2 ≡ 0) × SeatTook P.terms cell t.word seat.old.me.0 t.value seat.new.me.0) (λ n. (n % 2 ≡ 1) × (seat.new.me ≡ (record seat.old.me.0 { tried = (cell, n) }, seat.old.me.1))) }
+        ensures took { MatchResult result (λ t. (t.word % 2 ≡ 0) × SeatTook P.terms cell t.word seat.old.me.0 t.value seat.new.me.0) (λ n. (n % 2 ≡ 1) × (seat.new.me ≡ (record seat.old.me.0 { tried = (cell, n); misses = N.missed seat.old.me.0.misses }, seat.old.me.1))) }
         ensures plain { MatchResult result (λ t. IsPlain t.word) (λ n. IsPlain n) }
+        ensures pins { MatchResult result (λ t. times cell seat.old.me.0.pins ≤ pins_in t.word) (λ n. times cell seat.old.me.0.pins ≤ pins_in n) }
     {
         let bits = if touch { BUSY + REF } else { BUSY };
         let word = self
             .table
             .shared
-            .fetch_or::<Take<P>>(seat, cell as usize + 1, bits);
+            .fetch_or::<Take<P, N>>(seat, (cell as usize + 1) * APART, bits);
         if word % 2 == 1 {
             return Err(word);
         }
-        let slot = self.table.shared.exchange(seat, cell as usize, None);
-        self.table.shared.load::<Lay<P>>(seat, cell as usize + 1);
+        let slot = self
+            .table
+            .shared
+            .exchange(seat, cell as usize, Slot::of(None));
+        self.table
+            .shared
+            .load::<Lay<P>>(seat, (cell as usize + 1) * APART);
         Ok(Taken {
             word,
-            value: slot.unwrap(),
+            value: slot.into_value().unwrap(),
         })
     }
 
@@ -101,10 +110,11 @@ impl<P: Plot> CellTable<P> {
         ensures same { (seat.new.table_id ≡ seat.old.table_id) × (seat.new.id ≡ seat.old.id) × IsAtRest seat.new.me }
         ensures took { (result.word % 2 ≡ 0) × SeatTook P.terms cell result.word seat.old.me.0 result.value seat.new.me.0 }
         ensures plain { IsPlain result.word }
+        ensures pins { times cell seat.old.me.0.pins ≤ pins_in result.word }
     {
         let backoff = Backoff::new();
         for _ in rt.forever() {
-            if let Ok(taken) = self.attempt(seat, cell, touch) {
+            if let Ok(taken) = self.attempt::<Waits>(seat, cell, touch) {
                 return taken;
             }
             backoff.snooze();
@@ -121,22 +131,31 @@ impl<P: Plot> CellTable<P> {
         ensures same { (seat.new.table_id ≡ seat.old.table_id) × (seat.new.id ≡ seat.old.id) }
         ensures given { seat.new.me ≡ (freed seat.old.me.0 cell, []) }
     {
-        self.table.shared.load::<Fetch<P>>(seat, cell as usize + 1);
-        let empty = self.table.shared.exchange(seat, cell as usize, Some(value));
-        let None = empty else { unreachable!() };
         self.table
             .shared
-            .fetch_and::<Give<P>>(seat, cell as usize + 1, u64::MAX - BUSY);
+            .load::<Fetch<P>>(seat, (cell as usize + 1) * APART);
+        let empty = self
+            .table
+            .shared
+            .exchange(seat, cell as usize, Slot::of(Some(value)));
+        let None = empty.into_value() else {
+            unreachable!()
+        };
+        self.table
+            .shared
+            .fetch_and::<Give<P>>(seat, (cell as usize + 1) * APART, u64::MAX - BUSY);
     }
 
     pub(crate) fn look(&self, seat: &mut Place<P>, cell: u32) -> u64
         requires own { seat.old.table_id ≡ self.now.table.shared.table_id }
         requires cell { cell < length self.now.table.shared.key.cells.value.items }
         ensures same { seat.new.table_id ≡ seat.old.table_id }
-        ensures noted { seat.new.me ≡ (record seat.old.me.0 { looked = (cell, result) }, seat.old.me.1) }
+        ensures noted { seat.new.me ≡ (record seat.old.me.0 { looked = (cell, result); looks = seat.old.me.0.looks + 1 }, seat.old.me.1) }
         ensures shows { Shows seat.old.me.0 cell result }
     {
-        self.table.shared.load::<Look<P>>(seat, cell as usize + 1)
+        self.table
+            .shared
+            .load::<Look<P>>(seat, (cell as usize + 1) * APART)
     }
 
     pub(crate) fn stamp_as<N: Asked<P::Draft, P::Part>>(
@@ -163,7 +182,7 @@ impl<P: Plot> CellTable<P> {
     {
         self.table
             .shared
-            .fetch_add::<Pin<P>>(seat, cell as usize + 1, PIN);
+            .fetch_add::<Pin<P>>(seat, (cell as usize + 1) * APART, PIN);
     }
 
     pub(crate) fn unpin(&self, seat: &mut Place<P>, cell: u32)
@@ -176,7 +195,7 @@ impl<P: Plot> CellTable<P> {
     {
         self.table
             .shared
-            .fetch_sub::<Unpin<P>>(seat, cell as usize + 1, PIN);
+            .fetch_sub::<Unpin<P>>(seat, (cell as usize + 1) * APART, PIN);
     }
 
     pub(crate) fn unref(&self, seat: &mut Place<P>, cell: u32)
@@ -187,7 +206,7 @@ impl<P: Plot> CellTable<P> {
     {
         self.table
             .shared
-            .fetch_and::<Unref<P>>(seat, cell as usize + 1, u64::MAX - REF);
+            .fetch_and::<Unref<P>>(seat, (cell as usize + 1) * APART, u64::MAX - REF);
     }
 
     // A second seat that has seen as much.
@@ -253,7 +272,7 @@ pub(crate) fn emptied<P: Plot>(
     let count = closed.slot_count();
     for i in 0..count {
         let slot = closed.take(i);
-        let Ok(()) = room.push(slot) else {
+        let Ok(()) = room.push(slot.into_value()) else {
             unreachable!()
         };
     }

@@ -2,13 +2,14 @@
 ghost use Rattle.std.specs.Prelude.{vec_capacity, ◌≡◌, ◌+◌, ◌-◌, ◌<◌, ◌≤◌, ◌^◌, ℕ, List, [], length, min, IfOk, IfErr, MatchResult};
 ghost use Rattle.eleos_base.specs.Ties.{Has};
 ghost use Rattle.eleos_base.specs.declared.plot.Tied.TheVariants.{Adds, Takes};
-ghost use Rattle.eleos_turn.specs.Hands.{IsSound, Took, CanStamp, Stamped, Heard, part_of, links_on, without_turn, with_pin, without_pin, split_of, tallied, refused_at, home_of};
+ghost use Rattle.eleos_turn.specs.Hands.{IsSound, Took, CanStamp, Stamped, Heard, part_of, links_on, without_turn, with_pin, without_pin, split_of, tallied, refused_at, looked_at, home_of};
 ghost use Rattle.eleos_turn.specs.Numbers.{times, most_pins};
-ghost use Rattle.eleos_turn.specs.Words.{IsBusy, IsFree, IsPlain, pins_in};
+ghost use Rattle.eleos_base.specs.Words.{IsBusy, IsFree, IsPlain, pins_in};
 
 use crate::answers::{Busy, Refused, Taken};
 use crate::hand::Hand;
 use crate::table::CellTable;
+use crate::view::Tries;
 use eleos_base::{Plot, Tied};
 use std::marker::{Brand, Model};
 use std::sync::Wait;
@@ -71,6 +72,7 @@ impl<P: Plot> Turnstile<P> {
         requires made { 0 < hand.old.number }
         ensures word { IsFree result.word }
         ensures plain { IsPlain result.word }
+        ensures pins { times cell hand.old.pins ≤ pins_in result.word }
         ensures took { Took P.terms cell result.word hand.old result.value hand.new }
         ensures sound { IsSound P.terms hand.new }
     {
@@ -94,10 +96,13 @@ impl<P: Plot> Turnstile<P> {
         ensures took { IfOk result (λ t. Took P.terms cell t.word hand.old t.value hand.new) }
         ensures busy { IfErr result (λ b. IsBusy b.word) }
         ensures plain { MatchResult result (λ t. IsPlain t.word) (λ b. IsPlain b.word) }
+        ensures pins { MatchResult result
+            (λ t. times cell hand.old.pins ≤ pins_in t.word)
+            (λ b. times cell hand.old.pins ≤ pins_in b.word) }
         ensures refused { IfErr result (λ b. hand.new ≡ refused_at hand.old cell b.word) }
         ensures sound { IsSound P.terms hand.new }
     {
-        match self.cells.attempt(&mut hand.seat, cell, touch) {
+        match self.cells.attempt::<Tries>(&mut hand.seat, cell, touch) {
             Ok(taken) => {
                 hand.turns += 1;
                 Ok(taken)
@@ -161,7 +166,7 @@ impl<P: Plot> Turnstile<P> {
     pub fn look(&self, hand: &mut Hand<P>, cell: u32) -> u64
         requires own { hand.old.home ≡ self.now }
         requires cell { cell < length self.now.base.opening }
-        ensures noted { hand.new ≡ record hand.old { looked = (cell, result) } }
+        ensures noted { hand.new ≡ looked_at hand.old cell result }
         ensures busy { Has cell hand.old.turns → IsBusy result }
         ensures pins { times cell hand.old.pins ≤ pins_in result }
         ensures clean { Has cell hand.old.clean → pins_in result ≡ times cell hand.old.pins }

@@ -1,9 +1,11 @@
 //! What a seat knows, and the rule of the table.
-//! Word 0 is the length of the history. Word c + 1 is odd while somebody has the turn of the cell c.
+//! Word 0 is the length of the history. The word of a cell is odd while somebody has its turn; it lies
+//! in a line of the processor's cache of its own, as word 0 does.
 //! The slot c has the cell's value, and is empty while somebody has its turn.
-ghost use Rattle.std.specs.Prelude.{List, []};
+ghost use Rattle.std.specs.Prelude.{ℕ, ◌+◌, List, []};
 ghost use Rattle.eleos_base.specs.declared.plot.Event.{Event};
 
+use crate::slot::Slot;
 use crate::told::Told;
 use atomic_table::{Seat, TableRule};
 use eleos_base::{Base, Event, Plot};
@@ -30,8 +32,12 @@ pub struct View<D, Q, G> {
     pub told: LinkedList<Event<D, Q>>,
     /// The cell that it looked at last, and the word that it found.
     pub looked: (u32, u64),
+    /// How often it looked.
+    pub looks: u64,
     /// The cell whose turn it tried to take last, and the word that it found.
     pub tried: (u32, u64),
+    /// How many tries found a cell busy, those of a take that waits left out.
+    pub misses: u64,
     /// The stamps that it may still make.
     pub left: u64,
     /// How many pins it may have.
@@ -64,11 +70,8 @@ pub struct Turns<P> {
     plot: PhantomData<P>,
 }
 
-impl<P: Plot> TableRule<
-    Option<P::Cell>,
-    View<P::Draft, P::Part, P::Ground>,
-    Key<P::Cell, P::Ground>,
-> for Turns<P> {
+impl<P: Plot> TableRule<Slot<P::Cell>, View<P::Draft, P::Part, P::Ground>, Key<P::Cell, P::Ground>>
+    for Turns<P> {
     ghost use Rattle.eleos_turn.specs.Rule.{Kept, base_of};
     ghost use Rattle.eleos_turn.specs.Views.{dealing};
 
@@ -79,9 +82,28 @@ impl<P: Plot> TableRule<
 
 /// A seat at the table of a plot.
 pub type Place<P> = Seat<
-    Option<<P as Plot>::Cell>,
+    Slot<<P as Plot>::Cell>,
     View<<P as Plot>::Draft, <P as Plot>::Part, <P as Plot>::Ground>,
 >;
+
+/// How many tries have found a cell busy, after one more did.
+pub trait Missed {
+    ghost missed: { ℕ → ℕ };
+}
+
+/// A try of a take that waits is not counted: it will be made again.
+pub(crate) struct Waits;
+
+impl Missed for Waits {
+    ghost missed = { λ n. n };
+}
+
+/// A try that is answered is counted.
+pub(crate) struct Tries;
+
+impl Missed for Tries {
+    ghost missed = { λ n. n + 1 };
+}
 
 /// The event that a stamp adds, or none.
 pub trait Asked<D, Q> {

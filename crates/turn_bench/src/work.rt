@@ -75,9 +75,9 @@ fn two_threads<R: Threads + Wait + Sync>(
 /// Where the cells of the workers are.
 #[derive(Clone, Copy, Debug, PartialEq, Eq)]
 pub enum Places {
-    /// Beside each other: their words lie in one line of the processor's cache, with the stamp word.
+    /// Beside each other, in lines of the processor's cache of their own.
     Beside,
-    /// Sixteen numbers from each other: each word lies in a line of its own.
+    /// Sixteen numbers from each other, which should be as fast and no faster.
     Apart,
 }
 

@@ -1,10 +1,10 @@
 use Rattle.std.proofs.Common.{ℕ, Some, ◌+◌, [], ◌∷◌, refl, sym, ap, ◌∙◌, subst, inl, inr}
 use Rattle.eleos_base.specs.Ties.{Has}
-use Rattle.eleos_turn.specs.declared.counters.Raise.{Raise}
+use Rattle.turn_tests.specs.declared.counters.Raise.{Raise}
 use Rattle.eleos_turn.specs.Hands.{HandState, part_of}
 use Rattle.eleos_turn.proofs.Clients.{took_part, stamped_part}
-use Rattle.eleos_turn.proofs.counters.raise_two.Invariants.{row}
-use Rattle.eleos_turn.proofs.counters.raise_two.Goals as goal
+use Rattle.turn_tests.proofs.counters.raise_two.Invariants.{row}
+use Rattle.turn_tests.proofs.counters.raise_two.Goals as goal
 
 pub give-requires-then-one-clause-right : goal.give-requires-then-one-clause-right
 give-requires-then-one-clause-right g c = let had : Has 0 c.take.new.hand.turns = subst (λ (y : HandState Raise ℕ (Unit {0})). Has 0 y.turns) (sym c.take.ensures.took.now) (inl refl) in

@@ -1,9 +1,11 @@
 //! A row of counters, a small client of the turnstile: an entry adds 1 to one or two of them.
 //! The tests run it, and edits of it show what the calls refuse.
-ghost use Rattle.std.specs.Prelude.{◌≡◌, ◌+◌, ◌<◌, [], length};
+ghost use Rattle.std.specs.Prelude.{◌≡◌, ◌+◌, ◌<◌, [], length, IfErr};
+ghost use Rattle.eleos_turn.specs.Hands.{looked_at};
+ghost use Rattle.eleos_base.specs.Words.{IsBusy};
 
-use crate::{Hand, Taken, Turnstile};
 use eleos_base::{Plot, Tied};
+use eleos_turn::{Busy, Hand, Taken, Turnstile};
 use std::sync::Wait;
 
 #[derive(Drop)]
@@ -43,8 +45,38 @@ impl Plot for Counters {
     ghost local = { λ g e b a b' a' same h c in_foot. let s = same c in_foot in s.1 ∙ (h c in_foot ∙ ap (λ n. n + 1) (sym s.0)) };
 }
 
+/// Looks at a cell twice, and answers what it found.
+pub fn look_twice(all: &Turnstile<Counters>, hand: &mut Hand<Counters>, cell: u32) -> (u64, u64)
+    requires own { hand.old.home ≡ all.now }
+    requires cell { cell < length all.now.base.opening }
+    ensures { hand.new ≡ looked_at (looked_at hand.old cell result.0) cell result.1 }
+{
+    let first = all.look(hand, cell);
+    let second = all.look(hand, cell);
+    (first, second)
+}
+
+/// Tries the turn of a cell, and again where somebody has it.
+pub fn try_twice(
+    all: &Turnstile<Counters>,
+    hand: &mut Hand<Counters>,
+    cell: u32,
+) -> Result<Taken<Counter>, Busy>
+    requires own { hand.old.home ≡ all.now }
+    requires cell { cell < length all.now.base.opening }
+    requires idle { hand.old.turns ≡ [] }
+    requires made { 0 < hand.old.number }
+    ensures busy { IfErr result (λ b. IsBusy b.word) }
+    ensures steps { IfErr result (λ _. hand.new.misses ≡ hand.old.misses + 2) }
+{
+    match all.try_take(hand, cell, false) {
+        Ok(taken) => Ok(taken),
+        Err(_) => all.try_take(hand, cell, false),
+    }
+}
+
 /// Adds 1 to the first counter, and answers the stamp. None where no stamp is left or it is full.
-pub(crate) fn raise_one<R: Wait>(
+pub fn raise_one<R: Wait>(
     rt: &R,
     all: &Turnstile<Counters>,
     hand: &mut Hand<Counters>,
@@ -78,7 +110,7 @@ pub(crate) fn raise_one<R: Wait>(
 }
 
 /// Adds 1 to both counters, and answers the stamp. None where no stamp is left or one is full.
-pub(crate) fn raise_two<R: Wait>(
+pub fn raise_two<R: Wait>(
     rt: &R,
     all: &Turnstile<Counters>,
     hand: &mut Hand<Counters>,
@@ -122,7 +154,7 @@ pub(crate) fn raise_two<R: Wait>(
 }
 
 /// Makes 1,000 entries, every second one on both counters, and keeps their stamps.
-pub(crate) fn raise_many<R: Wait>(
+pub fn raise_many<R: Wait>(
     rt: &R,
     all: &Turnstile<Counters>,
     hand: Hand<Counters>,

@@ -1,9 +1,9 @@
 //! Cells that hold a hand of another turnstile at rest: a small client, which the tests run.
-ghost use Rattle.std.specs.Prelude.{◌≡◌, ◌<◌, [], length};
+ghost use Rattle.std.specs.Prelude.{◌≡◌, ◌<◌, [], length, IfSome};
 
 use crate::counters::{Counters, Raise};
-use crate::{Hand, RestHand, Taken, Turnstile};
 use eleos_base::{Plot, Tied};
+use eleos_turn::{Hand, RestHand, Taken, Turnstile};
 use std::sync::Wait;
 
 #[derive(Drop)]
@@ -36,7 +36,7 @@ impl Plot for Shelves {
 }
 
 /// Lays a hand into the cell, and wakes the one that lay there.
-pub(crate) fn lay<R: Wait>(
+pub fn lay<R: Wait>(
     rt: &R,
     shelves: &Turnstile<Shelves>,
     porter: &mut Hand<Shelves>,
@@ -51,6 +51,7 @@ pub(crate) fn lay<R: Wait>(
     ensures own { porter.new.home ≡ porter.old.home }
     ensures idle { porter.new.turns ≡ [] }
     ensures made { porter.new.number ≡ porter.old.number }
+    ensures woken { IfSome result (λ old. old.turns ≡ []) }
 {
     let Taken { word: _, value } = shelves.take(rt, porter, cell, true);
     let Shelf { count, rest } = value;

@@ -1,13 +1,13 @@
-//! The word of a cell.
+// The word of a cell that threads share.
 ghost use Rattle.std.specs.Prelude.{◌≡◌, ◌↔◌, IsTrue};
-ghost use Rattle.eleos_turn.specs.Words.{IsBusy, IsReferenced, pins_in};
+ghost use Rattle.eleos_base.specs.Words.{IsReferenced, is_busy, is_taken, pins_in};
 
 /// Set while somebody has the turn.
-pub(crate) const BUSY: u64 = 1;
+pub const BUSY: u64 = 1;
 /// Set since the cell was touched.
-pub(crate) const REF: u64 = 2;
-/// One pin.
-pub(crate) const PIN: u64 = 256;
+pub const REF: u64 = 2;
+/// One pin: the pins are counted in bits 8 to 39.
+pub const PIN: u64 = 256;
 
 /// The word of a cell, as a take or a look found it.
 #[derive(Clone, Copy, Debug, PartialEq, Eq)]
@@ -24,22 +24,29 @@ impl CellWord {
 
     /// Somebody had the turn.
     pub fn is_busy(self) -> bool
-        ensures { IsTrue result ↔ IsBusy self.bits }
+        ensures { result ≡ is_busy self.bits }
     {
-        self.bits % 2 == 1
+        self.bits % 2 == BUSY
     }
 
     /// It was touched since the mark was cleared last.
     pub fn is_referenced(self) -> bool
         ensures { IsTrue result ↔ IsReferenced self.bits }
     {
-        self.bits / 2 % 2 == 1
+        self.bits / REF % 2 == 1
     }
 
     /// The pins of all hands.
-    pub fn pins(self) -> u64
+    pub fn pins(self) -> u32
         ensures { result ≡ pins_in self.bits }
     {
-        self.bits / PIN
+        (self.bits / PIN % (1 << 32)) as u32
+    }
+
+    /// Somebody had the turn, or there were pins.
+    pub fn is_taken(self) -> bool
+        ensures { result ≡ is_taken self.bits }
+    {
+        self.is_busy() || self.pins() > 0
     }
 }

@@ -2,8 +2,8 @@ use Rattle.std.proofs.Common.{ℕ, None, ◌+◌, [], ◌∷◌, refl, sym, ap, 
 use Rattle.eleos_turn.specs.Hands.{part_of}
 use Rattle.eleos_turn.proofs.Clients.{stamped_part}
 use Rattle.eleos_turn.proofs.Numbers.{here}
-use Rattle.eleos_turn.proofs.counters.raise_one.Invariants.{row}
-use Rattle.eleos_turn.proofs.counters.raise_one.Goals as goal
+use Rattle.turn_tests.proofs.counters.raise_one.Invariants.{row}
+use Rattle.turn_tests.proofs.counters.raise_one.Goals as goal
 
 pub give-requires-2-clause-right : goal.give-requires-2-clause-right
 give-requires-2-clause-right g c = let s = c.take.new.hand in let now : ℕ = part_of row s 0 in

@@ -3,7 +3,7 @@ ghost use Rattle.eleos_turn.specs.Hands.{fresh, dealt};
 
 use crate::counters::{Counter, Counters, raise_many};
 use crate::shelves::{Shelf, Shelves, lay};
-use crate::{CellWord, Closed, Hand, HandsRefused, Taken, Turnstile};
+use eleos_turn::{CellWord, Closed, Hand, HandsRefused, Taken, Turnstile};
 use std::alloc::{AllocError, Global};
 use std::process::Abort;
 use std::sync::Wait;

@@ -1,10 +1,10 @@
 use Rattle.std.proofs.Common.{ℕ, ◌≡◌, ◌+◌, [], ◌∷◌, option_to_list}
 use Rattle.eleos_base.specs.Ties.{Has, neither}
 use Rattle.eleos_base.specs.Terms.{Terms}
-use Rattle.eleos_turn.specs.declared.counters.Counter.{Counter}
-use Rattle.eleos_turn.specs.declared.counters.Raise.{Raise}
+use Rattle.turn_tests.specs.declared.counters.Counter.{Counter}
+use Rattle.turn_tests.specs.declared.counters.Raise.{Raise}
 use Rattle.eleos_turn.specs.Hands.{part_of}
-use Rattle.eleos_turn.proofs.counters.raise_two.Given as goal
+use Rattle.turn_tests.proofs.counters.raise_two.Given as goal
 
 -- what the counters and their entries mean
 abbrev pub row : Terms Counter Raise ℕ (Unit {0})

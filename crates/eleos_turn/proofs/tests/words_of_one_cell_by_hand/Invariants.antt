@@ -1,4 +1,0 @@
-use Rattle.eleos_turn.proofs.tests.words_of_one_cell_by_hand.Given as goal
-
-abbrev pub ghost-make : goal.ghost-make
-ghost-make g a = tt
