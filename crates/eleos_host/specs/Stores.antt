@@ -1,5 +1,5 @@
 -- What a told host has, and what each act makes of it. A place that it doesn't have reads as zeros and never changes.
-use Rattle.std.specs.Prelude.{ℕ, List, Bool, Option, Some, None, is_some, replicate, slice_index_or, slice_set}
+use Rattle.std.specs.Prelude.{ℕ, ◌-◌, List, ◌++◌, length, Bool, Option, Some, None, is_some, replicate, slice_index_or, slice_set}
 use Rattle.eleos_host.specs.Blocks.{zero_block, with_bit_flipped}
 
 -- the block of each place, and the block that was kept of each place, if any
@@ -10,6 +10,14 @@ pub record Store : Type 0 where
 -- a store of so many places, before anything was put or kept
 abbrev pub blank_store : ℕ → Store
 blank_store places = record { contents = replicate places zero_block; kept = replicate places None }
+
+-- the list with copies of the item behind it, so that it has at least so many
+abbrev pub filled_up : {A : Type 0} → ℕ → A → List A → List A
+filled_up count item items = items ++ replicate (count - length items) item
+
+-- the store with at least so many places: those that it had as they were, and the others as in a blank one
+abbrev pub with_room : ℕ → Store → Store
+with_room places s = record { contents = filled_up places zero_block s.contents; kept = filled_up places None s.kept }
 
 -- what the place reads as
 abbrev pub get_from : Store → ℕ → List ℕ

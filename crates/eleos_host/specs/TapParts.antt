@@ -7,7 +7,7 @@ use Rattle.eleos_host.specs.Taps.{TapState, HasSlots, IsAsItCame}
 
 module _ {P : Type 0} where
   abbrev pub tap_of : Inside P → TapState P
-  tap_of t = record { port = t.port; blocks = t.blocks.items; states = t.states; failed = t.failed }
+  tap_of t = record { port = t.port; begins = t.begins; blocks = t.blocks.items; states = t.states; failed = t.failed }
 
   -- all slots are there, and the one that is named has its block as it came
   pub record IsTap (t : Inside P) : Type 0 where

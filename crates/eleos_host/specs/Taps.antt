@@ -1,13 +1,14 @@
 -- The copy buffers of one pass, as contracts see them, and what each call makes of them.
-use Rattle.std.specs.Prelude.{◌≡◌, ℕ, List, length, replicate, slice_index_or, slice_set, ◌==◌, Option, Some, None, option_map, if◌then◌else◌}
+use Rattle.std.specs.Prelude.{◌≡◌, ℕ, ◌+◌, ◌%◌, ◌^◌, List, length, replicate, slice_index_or, slice_set, ◌==◌, Option, Some, None, option_map, if◌then◌else◌}
 use Rattle.eleos_host.specs.declared.slot.TheConstants.{SLOTS}
 use Rattle.eleos_host.specs.declared.slot.SlotState.{SlotState}
 use Rattle.eleos_host.specs.declared.slot.SlotState.TheVariants.{Idle, AsItCame, Lent}
 use Rattle.eleos_host.specs.Blocks.{zero_block}
 
--- the port; the bytes of each slot and where they are from; the slot that was named as one that did not pass, if any
+-- the port; how often the tap has begun; the bytes of each slot and where they are from; the slot that was named as one that did not pass, if any
 pub record TapState (P : Type 0) : Type 0 where
   pub port : P
+  pub begins : ℕ
   pub blocks : List (List ℕ)
   pub states : List SlotState
   pub failed : Option ℕ
@@ -27,10 +28,14 @@ abbrev pub other_than : ℕ → Option ℕ → Option ℕ
 other_than slot None = None
 other_than slot (Some named) = if named == slot then None else Some named
 
+-- one begin more: they are counted as a `u64` wraps
+abbrev pub one_more : ℕ → ℕ
+one_more begins = (begins + 1) % 2 ^ 64
+
 module _ {P : Type 0} where
   -- a tap before its first `begin`
   abbrev pub new_tap : P → TapState P
-  new_tap port = record { port = port; blocks = replicate SLOTS zero_block; states = all_idle; failed = None }
+  new_tap port = record { port = port; begins = 0; blocks = replicate SLOTS zero_block; states = all_idle; failed = None }
 
   -- the bytes that the slot has
   abbrev pub block_of : TapState P → ℕ → List ℕ
@@ -53,14 +58,15 @@ module _ {P : Type 0} where
   abbrev pub IsAsItCame : TapState P → ℕ → Type 0
   IsAsItCame tap slot = state_of tap slot ≡ AsItCame
 
-  -- nothing is fetched and nothing named; the bytes lie there still
+  -- it has begun once more: nothing is fetched and nothing named; the bytes lie there still
   abbrev pub begun : TapState P → P → TapState P
-  begun tap port = record { port = port; blocks = tap.blocks; states = all_idle; failed = None }
+  begun tap port = record { port = port; begins = one_more tap.begins; blocks = tap.blocks; states = all_idle; failed = None }
 
   -- the slot has the block that came, as it came
   abbrev pub with_fetched : TapState P → ℕ → P → List ℕ → TapState P
   with_fetched tap slot port block = record {
     port = port;
+    begins = tap.begins;
     blocks = slice_set tap.blocks slot block;
     states = slice_set tap.states slot AsItCame;
     failed = tap.failed;
@@ -70,6 +76,7 @@ module _ {P : Type 0} where
   abbrev pub loosened : TapState P → ℕ → TapState P
   loosened tap slot = record {
     port = tap.port;
+    begins = tap.begins;
     blocks = tap.blocks;
     states = slice_set tap.states slot (lent_state (state_of tap slot));
     failed = other_than slot tap.failed;

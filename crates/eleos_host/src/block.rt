@@ -1,5 +1,5 @@
 // The blocks that lie at the host.
-ghost use Rattle.std.specs.Prelude.{◌≡◌, IfOk, replicate};
+ghost use Rattle.std.specs.Prelude.{◌≡◌, ◌++◌, IfOk, OnErr, OnOk, replicate};
 
 use eleos_base::NoMemory;
 use std::alloc::Global;
@@ -20,9 +20,21 @@ pub(crate) const ZEROS: Block = [0; BLOCK_BYTES];
 pub(crate) fn copies<T: Copy>(alloc: Global, count: u32, item: T) -> Result<Vec<T>, NoMemory>
     ensures { IfOk result (λ all. all.items ≡ replicate count item) }
 {
-    let mut all = Vec::with_capacity(alloc, count as usize)?;
-    for _done in 0..count {
-        all.push(item)?;
-    }
+    let mut all = Vec::new(alloc);
+    add_copies(&mut all, count as usize, item)?;
     Ok(all)
+}
+
+// So many copies of the item more.
+pub(crate) fn add_copies<T: Copy>(all: &mut Vec<T>, count: usize, item: T) -> Result<(), NoMemory>
+    ensures ok { OnOk result (all.new.items ≡ all.old.items ++ replicate count item) }
+    ensures err { OnErr result (all.new.items ≡ all.old.items) }
+{
+    all.reserve(count)?;
+    for _done in 0..count {
+        let Ok(()) = all.push(item) else {
+            unreachable!()
+        };
+    }
+    Ok(())
 }

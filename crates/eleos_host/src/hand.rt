@@ -24,7 +24,7 @@ pub enum Answer {
 }
 
 /// The hand of a host that is not trusted, by which its blocks change without a put.
-/// It never refuses an act.
+/// It never refuses an act, and nothing crosses a port by one.
 pub trait HostHand: HostStore {
     /// The hand did this, with this answer.
     ghost did: { Act → Answer → Type 0 };
@@ -34,19 +34,28 @@ pub trait HostHand: HostStore {
         requires { bit < BLOCK_BITS }
         ensures did { did (Act.Flip place bit) Answer.Done }
         ensures store { Self.store self.new
-            ≡ option_map (λ s. flipped s place bit) (Self.store self.old) };
+            ≡ option_map (λ s. flipped s place bit) (Self.store self.old) }
+        ensures given { Self.given self.new ≡ Self.given self.old }
+        ensures taken { Self.taken self.new ≡ Self.taken self.old }
+        ensures places { Self.places self.new ≡ Self.places self.old };
 
     /// Exchanges the blocks of two places. One that the host doesn't have takes part as zeros.
     fn swap(&mut self, a: u32, b: u32)
         ensures did { did (Act.Swap a b) Answer.Done }
         ensures store { Self.store self.new
-            ≡ option_map (λ s. swapped s a b) (Self.store self.old) };
+            ≡ option_map (λ s. swapped s a b) (Self.store self.old) }
+        ensures given { Self.given self.new ≡ Self.given self.old }
+        ensures taken { Self.taken self.new ≡ Self.taken self.old }
+        ensures places { Self.places self.new ≡ Self.places self.old };
 
     /// Keeps the place's block as it is, in place of what was kept of it before.
     fn keep(&mut self, place: u32)
         ensures did { did (Act.Keep place) Answer.Done }
         ensures store { Self.store self.new
-            ≡ option_map (λ s. kept_at s place) (Self.store self.old) };
+            ≡ option_map (λ s. kept_at s place) (Self.store self.old) }
+        ensures given { Self.given self.new ≡ Self.given self.old }
+        ensures taken { Self.taken self.new ≡ Self.taken self.old }
+        ensures places { Self.places self.new ≡ Self.places self.old };
 
     /// Puts back what was kept of the place, which stays kept; false where nothing was.
     fn restore(&mut self, place: u32) -> bool
@@ -54,5 +63,8 @@ pub trait HostHand: HostStore {
             (if result then Answer.Done else Answer.NothingKept) }
         ensures store { Self.store self.new
             ≡ option_map (λ s. restored s place) (Self.store self.old) }
+        ensures given { Self.given self.new ≡ Self.given self.old }
+        ensures taken { Self.taken self.new ≡ Self.taken self.old }
+        ensures places { Self.places self.new ≡ Self.places self.old }
         ensures answer { IfSome (Self.store self.old) (λ s. result ≡ is_kept s place) };
 }

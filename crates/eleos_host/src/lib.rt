@@ -5,6 +5,7 @@ mod block;
 mod crossings;
 mod hand;
 mod port;
+mod room;
 mod shared;
 mod slot;
 mod space;
@@ -17,11 +18,9 @@ pub use block::{BLOCK_BITS, BLOCK_BYTES, Block};
 pub use crossings::{Crossings, MOST_TOLD};
 pub use hand::{Act, Answer, HostHand};
 pub use port::{HostPort, HostStore};
+pub use room::{HostOpener, HostRoom};
 pub use shared::{SharedHand, SharedHost, SharedPort};
 pub use slot::{SLOTS, SlotState};
 pub use space::HostSpace;
 pub use tap::Tap;
 pub use told::ToldHost;
-
-#[cfg(test)]
-mod tests;

@@ -1,10 +1,11 @@
 // A host in memory for many threads, which tells nothing of what it has.
-ghost use Rattle.std.specs.Prelude.{◌≡◌, ◌≤◌, nat_lt, is_some, IfOk, None};
+ghost use Rattle.std.specs.Prelude.{◌≡◌, ◌≤◌, max, nat_lt, is_some, IfOk, OnErr, OnOk, None};
 ghost use Rattle.eleos_host.specs.Blocks.{IsBlock, zero_block};
+ghost use Rattle.eleos_host.specs.Crossings.{none_yet};
 
 use crate::block::ZEROS;
 use crate::words::Words;
-use crate::{Crossings, HostHand, HostPort, HostSpace, HostStore};
+use crate::{Crossings, HostHand, HostOpener, HostPort, HostSpace, HostStore};
 use eleos_base::NoMemory;
 use std::alloc::Global;
 use std::marker::Model;
@@ -61,15 +62,32 @@ impl Model for SharedHost {
 }
 
 impl SharedHost {
+    /// A host without a place.
+    pub fn new(alloc: Global) -> SharedHost
+        ensures { result.places ≡ 0 }
+    {
+        SharedHost {
+            places: Vec::new(alloc),
+        }
+    }
+
     /// A host of so many places with zeros, of which nothing is kept.
     pub fn make(alloc: Global, places: u32) -> Result<SharedHost, NoMemory>
         ensures { IfOk result (λ host. host.places ≡ places) }
     {
-        let mut all = Vec::with_capacity(alloc, places as usize)?;
-        for _done in 0..places {
-            all.push(Place::new())?;
-        }
-        Ok(SharedHost { places: all })
+        let mut host = SharedHost::new(alloc);
+        host.make_room(places)?;
+        Ok(host)
+    }
+
+    /// Sees to it that it has at least so many places, with zeros where it had none.
+    pub fn make_room(&mut self, places: u32) -> Result<(), NoMemory>
+        ensures ok { OnOk result (self.new.places ≡ max self.old.places places) }
+        ensures err { OnErr result (self.new.places ≡ self.old.places) }
+    {
+        let places = self.places.len().max(places as usize);
+        self.places.resize_with(places, || Place::new())?;
+        Ok(())
     }
 
     fn at(&self, place: u32) -> Option<&Place>
@@ -115,6 +133,8 @@ pub struct SharedHand<'a> {
 
 // Its ports and hands borrow the host, and take no memory.
 impl<'a> HostSpace for &'a SharedHost {
+    ghost places = { λ host. host.now.places };
+
     type Port = SharedPort<'a>;
 
     type Hand = SharedHand<'a>;
@@ -132,18 +152,30 @@ impl<'a> HostSpace for &'a SharedHost {
     }
 }
 
+// It is lent for good, so that threads can share it from then on.
+impl<'a> HostOpener for &'a mut SharedHost {
+    type Space = &'a SharedHost;
+
+    fn open(self, places: u32) -> Result<&'a SharedHost, NoMemory> {
+        self.make_room(places)?;
+        Ok(self)
+    }
+}
+
 impl<'a> HostStore for SharedPort<'a> {
+    ghost places = { λ port. port.host.now.places };
+
     ghost store = { λ port. None };
+
+    ghost given = { λ port. port.given };
+
+    ghost taken = { λ port. port.taken };
 }
 
 impl<'a> HostPort for SharedPort<'a> {
     ghost gave = { λ place block. IsBlock block };
 
     ghost took = { λ place block. IsBlock block };
-
-    ghost given = { λ port. port.given };
-
-    ghost taken = { λ port. port.taken };
 
     fn begin(&mut self) {
         self.given = Crossings::new();
@@ -162,7 +194,14 @@ impl<'a> HostPort for SharedPort<'a> {
 }
 
 impl<'a> HostStore for SharedHand<'a> {
+    ghost places = { λ hand. hand.host.now.places };
+
     ghost store = { λ hand. None };
+
+    // Nothing crosses a hand.
+    ghost given = { λ hand. none_yet };
+
+    ghost taken = { λ hand. none_yet };
 }
 
 impl<'a> HostHand for SharedHand<'a> {

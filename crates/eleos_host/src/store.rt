@@ -1,10 +1,10 @@
 // The blocks of a told host, and what each act makes of them.
-ghost use Rattle.std.specs.Prelude.{◌≡◌, ◌<◌, IfOk};
+ghost use Rattle.std.specs.Prelude.{◌≡◌, ◌<◌, OnErr, OnOk};
 ghost use Rattle.eleos_host.specs.Blocks.{IsBlock};
-ghost use Rattle.eleos_host.specs.Stores.{blank_store, get_from, put_to, flipped, swapped, kept_at, kept_of, is_kept, restored};
+ghost use Rattle.eleos_host.specs.Stores.{blank_store, with_room, get_from, put_to, flipped, swapped, kept_at, kept_of, is_kept, restored};
 
 use crate::BLOCK_BITS;
-use crate::block::{Block, ZEROS, copies};
+use crate::block::{Block, ZEROS, add_copies};
 use eleos_base::NoMemory;
 use std::alloc::Global;
 use std::marker::Model;
@@ -25,14 +25,30 @@ impl Model for Shelves {
 }
 
 impl Shelves {
-    #[tactic(auto, unfolding(crate::specs::Blocks::zero_block))]
-    pub(crate) fn make(alloc: Global, places: u32) -> Result<Self, NoMemory>
-        ensures { IfOk result (λ s. s ≡ blank_store places) }
+    pub(crate) fn new(alloc: Global) -> Self
+        ensures { result ≡ blank_store 0 }
     {
-        Ok(Shelves {
-            contents: copies(alloc, places, ZEROS)?,
-            kept: copies(alloc, places, None)?,
-        })
+        Shelves {
+            contents: Vec::new(alloc),
+            kept: Vec::new(alloc),
+        }
+    }
+
+    // So many places at least. Those that it had stay as they are.
+    #[tactic(auto, unfolding(crate::specs::Blocks::zero_block))]
+    pub(crate) fn make_room(&mut self, places: u32) -> Result<(), NoMemory>
+        ensures ok { OnOk result (self.new ≡ with_room places self.old) }
+        ensures err { OnErr result (self.new ≡ self.old) }
+    {
+        let places = places as usize;
+        let had = self.contents.len();
+        add_copies(&mut self.contents, places.saturating_sub(had), ZEROS)?;
+        let keepable = self.kept.len();
+        let added = add_copies(&mut self.kept, places.saturating_sub(keepable), None);
+        if added.is_err() {
+            self.contents.truncate(had);
+        }
+        added
     }
 
     #[tactic(auto, unfolding(crate::specs::Blocks::zero_block))]

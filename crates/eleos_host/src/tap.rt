@@ -18,6 +18,8 @@ use std::marker::Model;
 #[derive(Drop)]
 pub struct Tap<P> {
     port: P,
+    /// For contracts alone: a call that begins once has one more afterwards.
+    begins: u64,
     blocks: Vec<Block>,
     states: [SlotState; SLOTS],
     failed: Option<usize>,
@@ -46,6 +48,7 @@ impl<P: HostPort> Tap<P> {
     {
         Ok(Tap {
             port,
+            begins: 0,
             blocks: copies(alloc, SLOTS as u32, ZEROS)?,
             states: [SlotState::Idle; SLOTS],
             failed: None,
@@ -57,10 +60,12 @@ impl<P: HostPort> Tap<P> {
         ensures given { P.given self.new.port ≡ none_yet }
         ensures taken { P.taken self.new.port ≡ none_yet }
         ensures store { P.store self.new.port ≡ P.store self.old.port }
+        ensures places { P.places self.new.port ≡ P.places self.old.port }
         ensures tap { self.new ≡ begun self.old self.new.port }
         ensures slots { HasSlots self.new }
     {
         self.port.begin();
+        self.begins = self.begins.wrapping_add(1);
         self.states = [SlotState::Idle; SLOTS];
         self.failed = None;
     }

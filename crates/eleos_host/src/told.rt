@@ -1,11 +1,11 @@
 // A host in memory for one thread, which tells all that it has.
-ghost use Rattle.std.specs.Prelude.{◌≡◌, List, Option, Some, IfOk};
+ghost use Rattle.std.specs.Prelude.{◌≡◌, List, Option, Some, IfOk, length};
 ghost use Rattle.eleos_host.specs.Blocks.{IsBlock};
 ghost use Rattle.eleos_host.specs.Crossings.{none_yet};
 ghost use Rattle.eleos_host.specs.Stores.{blank_store};
 
 use crate::store::Shelves;
-use crate::{Crossings, HostHand, HostPort, HostStore};
+use crate::{Crossings, HostHand, HostPort, HostRoom, HostStore};
 use eleos_base::NoMemory;
 use std::alloc::Global;
 use std::marker::Model;
@@ -29,32 +29,51 @@ impl Model for ToldHost {
 }
 
 impl ToldHost {
+    /// A host without a place.
+    pub fn new(alloc: Global) -> ToldHost
+        ensures store { result.store ≡ blank_store 0 }
+        ensures given { result.given ≡ none_yet }
+        ensures taken { result.taken ≡ none_yet }
+    {
+        ToldHost {
+            shelves: Shelves::new(alloc),
+            given: Crossings::new(),
+            taken: Crossings::new(),
+        }
+    }
+
     /// A host of so many places with zeros, of which nothing is kept.
     pub fn make(alloc: Global, places: u32) -> Result<ToldHost, NoMemory>
         ensures store { IfOk result (λ host. host.store ≡ blank_store places) }
         ensures given { IfOk result (λ host. host.given ≡ none_yet) }
         ensures taken { IfOk result (λ host. host.taken ≡ none_yet) }
     {
-        Ok(ToldHost {
-            shelves: Shelves::make(alloc, places)?,
-            given: Crossings::new(),
-            taken: Crossings::new(),
-        })
+        let mut host = ToldHost::new(alloc);
+        host.shelves.make_room(places)?;
+        Ok(host)
     }
 }
 
 impl HostStore for ToldHost {
+    ghost places = { λ host. length host.store.contents };
+
     ghost store = { λ host. Some host.store };
+
+    ghost given = { λ host. host.given };
+
+    ghost taken = { λ host. host.taken };
+}
+
+impl HostRoom for ToldHost {
+    fn make_room(&mut self, places: u32) -> Result<(), NoMemory> {
+        self.shelves.make_room(places)
+    }
 }
 
 impl HostPort for ToldHost {
     ghost gave = { λ place block. IsBlock block };
 
     ghost took = { λ place block. IsBlock block };
-
-    ghost given = { λ host. host.given };
-
-    ghost taken = { λ host. host.taken };
 
     fn begin(&mut self) {
         self.given = Crossings::new();

@@ -1,3 +1,4 @@
+// Hosts that change by their hands, a told one and one that threads share, and taps.
 ghost use Rattle.std.specs.Prelude.{◌≡◌, ◌<◌, length, [], ◌∷◌, Some, option_map, IfSome};
 ghost use Rattle.eleos_base.specs.Gcm.{ciphertext_of};
 ghost use Rattle.eleos_host.specs.Blocks.{IsBlock};
@@ -5,10 +6,11 @@ ghost use Rattle.eleos_host.specs.Crossings.{placed};
 ghost use Rattle.eleos_host.specs.Stores.{put_to, swapped};
 ghost use Rattle.eleos_host.specs.Taps.{block_of};
 
-use crate::{
+use eleos_base::Sealer;
+use eleos_host::{
     Act, Answer, BLOCK_BITS, BLOCK_BYTES, HostHand, HostPort, HostSpace, SharedHost, Tap, ToldHost,
 };
-use eleos_base::Sealer;
+use std::process::Abort;
 use std::test::Fail;
 
 // All that the port gave since `begin` are the blocks in the two slots, in order.
@@ -51,10 +53,16 @@ fn put_and_swap<P: HostPort + HostHand>(host: &mut P, a: u32, b: u32, block: &[u
     host.swap(a, b);
 }
 
-fn read<P: HostPort>(host: &mut P, place: u32) -> [u8; BLOCK_BYTES] {
+// The first byte that the place reads as.
+fn first_at<P: HostPort>(host: &mut P, place: u32) -> u8 {
     let mut block = [0xff; BLOCK_BYTES];
     host.get(place, &mut block);
-    block
+    block[0]
+}
+
+// Those of the places 0 and 1, and of place 2.
+fn firsts_of<P: HostPort>(host: &mut P) -> [u8; 3] {
+    [first_at(host, 0), first_at(host, 1), first_at(host, 2)]
 }
 
 fn perform<H: HostHand>(host: &mut H, act: Act) -> Answer {
@@ -109,89 +117,124 @@ const ACTS: [(Act, Answer, [u8; 3]); 13] = [
 
 #[test]
 fn a_told_host_changes_by_its_hand(rt: HostRuntime) -> Result<(), Fail> {
-    let mut host = ToldHost::make(rt.alloc(), 2).map_err(|_| "memory")?;
-    assert_eq!(rt; read(&mut host, 1), [0; BLOCK_BYTES], "before a put");
-    put_and_swap(&mut host, 0, 1, &[2; BLOCK_BYTES]);
+    match ToldHost::make(rt.alloc(), 2) {
+        Ok(mut host) => change_told(&rt, &mut host),
+        Err(_) => return Err("memory".into()),
+    }
+    Ok(())
+}
+
+fn change_told<R: Abort, P: HostPort + HostHand>(rt: &R, host: &mut P) {
+    assert_eq!(rt; first_at(host, 1), 0, "before a put");
+    put_and_swap(host, 0, 1, &[2; BLOCK_BYTES]);
     host.put(0, &[1; BLOCK_BYTES]);
     host.put(2, &[3; BLOCK_BYTES]);
     for (act, answer, firsts) in ACTS {
-        assert_eq!(rt; perform(&mut host, act), answer, "{act:?}");
-        for (place, first) in (0u32..).zip(firsts) {
-            assert_eq!(rt; read(&mut host, place)[0], first, "{place} after {act:?}");
-        }
+        assert_eq!(rt; perform(host, act), answer, "{act:?}");
+        assert_eq!(rt; firsts_of(host), firsts, "{act:?}");
     }
-    host.flip(0, BLOCK_BITS - 1);
-    assert_eq!(rt; read(&mut host, 0)[BLOCK_BYTES - 1], 0x81, "the last bit");
-    Ok(())
 }
 
 #[test]
 fn a_shared_host_changes_by_its_hands(rt: HostRuntime) -> Result<(), Fail> {
-    let host = SharedHost::make(rt.alloc(), 2).map_err(|_| "memory")?;
-    let space = &host;
-    assert_eq!(rt; read_from(&space, 1), [0; BLOCK_BYTES], "before a put");
-    write_to(&space, 0, &[1; BLOCK_BYTES]);
-    write_to(&space, 1, &[2; BLOCK_BYTES]);
-    write_to(&space, 2, &[3; BLOCK_BYTES]);
+    match SharedHost::make(rt.alloc(), 2) {
+        Ok(host) => change_shared(&rt, &&host),
+        Err(_) => return Err("memory".into()),
+    }
+    Ok(())
+}
+
+fn change_shared<R: Abort, H: HostSpace>(rt: &R, space: &H) {
+    assert_eq!(rt; first_at(&mut space.port(0), 1), 0, "before a put");
+    write_to(space, 0, &[1; BLOCK_BYTES]);
+    write_to(space, 1, &[2; BLOCK_BYTES]);
+    write_to(space, 2, &[3; BLOCK_BYTES]);
     for (act, answer, firsts) in ACTS {
         assert_eq!(rt; perform(&mut space.hand(), act), answer, "{act:?}");
-        for (place, first) in (0u32..).zip(firsts) {
-            assert_eq!(rt; read_from(&space, place)[0], first, "{place} after {act:?}");
-        }
+        assert_eq!(rt; firsts_of(&mut space.port(1)), firsts, "{act:?}");
     }
+}
+
+#[test]
+fn a_shared_host_has_each_byte_in_its_place(rt: HostRuntime) -> Result<(), Fail> {
+    match SharedHost::make(rt.alloc(), 2) {
+        Ok(host) => flip_shared(&rt, &&host),
+        Err(_) => return Err("memory".into()),
+    }
+    Ok(())
+}
+
+fn flip_shared<R: Abort, H: HostSpace>(rt: &R, space: &H) {
+    write_to(space, 1, &marked(7));
+    assert!(rt; read_from(space, 1) == marked(7), "as it was put");
+    space.hand().flip(1, 8 * 7 + 1);
+    assert!(rt;
+        read_from(space, 1) == marked(5),
+        "a bit of the eighth byte"
+    );
+    space.hand().flip(1, BLOCK_BITS - 1);
+    assert_eq!(rt; read_from(space, 1)[BLOCK_BYTES - 1], 0x89, "the last bit");
+    assert_eq!(rt; read_from(space, 0)[0], 0, "the place beside");
+}
+
+// A block with this byte behind the seven first ones, then 8, and 9 at its end.
+fn marked(byte: u8) -> [u8; BLOCK_BYTES] {
     let mut block = [0; BLOCK_BYTES];
-    block[7] = 7;
+    block[7] = byte;
     block[8] = 8;
     block[BLOCK_BYTES - 1] = 9;
-    write_to(&space, 1, &block);
-    assert_eq!(rt; read_from(&space, 1), block, "each byte in its place");
-    space.hand().flip(1, 8 * 7 + 1);
-    space.hand().flip(1, BLOCK_BITS - 1);
-    block[7] = 5;
-    block[BLOCK_BYTES - 1] = 0x89;
-    assert_eq!(rt;
-        read_from(&space, 1),
-        block,
-        "bits of the bytes at the ends"
-    );
-    assert_eq!(rt; read_from(&space, 0)[0], 1, "the place beside");
-    Ok(())
+    block
 }
 
 #[test]
 fn a_tap_copies_and_names_what_failed(rt: HostRuntime) -> Result<(), Fail> {
-    let mut host = ToldHost::make(rt.alloc(), 4).map_err(|_| "memory")?;
+    let Ok(mut host) = ToldHost::make(rt.alloc(), 4) else {
+        return Err("memory".into());
+    };
     host.put(0, &[5; BLOCK_BYTES]);
     host.put(3, &[6; BLOCK_BYTES]);
-    let mut tap = Tap::make(rt.alloc(), host).map_err(|_| "memory")?;
-    fetch_two(&mut tap, 3, 0);
-    assert_eq!(rt; tap.block(0), [6; BLOCK_BYTES].as_slice());
-    assert_eq!(rt; tap.block(1), [5; BLOCK_BYTES].as_slice());
+    match Tap::make(rt.alloc(), host) {
+        Ok(mut tap) => use_tap(&rt, &mut tap),
+        Err(_) => return Err("memory".into()),
+    }
+    Ok(())
+}
 
+fn use_tap<R: Abort, P: HostPort>(rt: &R, tap: &mut Tap<P>) {
+    fetch_two(tap, 3, 0);
+    assert!(rt; is_all(tap.block(0), 6) && is_all(tap.block(1), 5));
+    name_the_last(rt, tap);
+    store_and_fetch(rt, tap);
+}
+
+fn is_all(bytes: &[u8], byte: u8) -> bool {
+    bytes.iter().all(|one| *one == byte)
+}
+
+fn has_failed<P: HostPort>(tap: &Tap<P>, byte: u8) -> bool {
+    tap.failed().is_some_and(|block| is_all(block, byte))
+}
+
+// What is named is named last, as it came, until it is lent.
+fn name_the_last<R: Abort, P: HostPort>(rt: &R, tap: &mut Tap<P>) {
     tap.begin();
     tap.fetch(0, 2);
     tap.fetch(3, 1);
-    assert_eq!(rt; tap.failed(), None, "nothing is named");
+    assert!(rt; tap.failed().is_none(), "nothing is named");
     tap.fail(2);
     tap.fail(1);
-    assert_eq!(rt;
-        tap.failed(),
-        Some([6; BLOCK_BYTES].as_slice()),
-        "named last"
-    );
+    assert!(rt; has_failed(tap, 6), "named last");
     tap.block_mut(2).fill(9);
-    assert_eq!(rt;
-        tap.failed(),
-        Some([6; BLOCK_BYTES].as_slice()),
-        "another was lent"
-    );
+    assert!(rt; has_failed(tap, 6), "another was lent");
     tap.block_mut(1).fill(7);
-    assert_eq!(rt; tap.failed(), None, "it was lent");
+    assert!(rt; tap.failed().is_none(), "it was lent");
+}
 
+fn store_and_fetch<R: Abort, P: HostPort>(rt: &R, tap: &mut Tap<P>) {
+    tap.begin();
+    tap.block_mut(2).fill(9);
     tap.store(1, 2);
     tap.begin();
-    assert_eq!(rt; tap.failed(), None, "begun anew");
     tap.fetch(1, 0);
-    assert_eq!(rt; tap.block(0), [9; BLOCK_BYTES].as_slice(), "stored");
-    Ok(())
+    assert!(rt; is_all(tap.block(0), 9), "stored");
 }
