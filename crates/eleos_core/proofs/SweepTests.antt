@@ -8,7 +8,8 @@ use Rattle.eleos_base.specs.declared.memory.Looked.{Looked}
 use Rattle.eleos_base.specs.declared.memory.Reply.{Reply}
 use Rattle.eleos_base.specs.declared.memory.Reply.TheVariants.{Enough, Swept}
 use Rattle.eleos_core.specs.declared.event.Goal.TheVariants.{Low}
-use Rattle.eleos_core.specs.Sweeps.{IsEnough, IsShort, IsSwept, IsTaken, SurveyReply, frames_in, is_busy, is_taken}
+use Rattle.eleos_core.specs.Sweeps.{IsEnough, IsShort, IsSwept, IsTaken, SurveyReply, frames_in}
+use Rattle.eleos_base.specs.Words.{is_busy, is_taken}
 use Rattle.eleos_core.proofs.FrameLists.{member_from, member_into, no_longer}
 
 -- a fact of each, from a test of each, and back

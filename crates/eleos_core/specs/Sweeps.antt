@@ -1,18 +1,12 @@
 -- What a search among frames saw of them, and how it ended.
-use Rattle.std.specs.Prelude.{◌≡◌, ℕ, ◌<◌, ◌≤◌, ◌⊎◌, ◌%◌, ◌/◌, List, [], length, map, Bool, ◌||◌, ◌==◌, nat_eq, nat_lt, true, count_by, Contains, IsPermutation}
+use Rattle.std.specs.Prelude.{◌≡◌, ℕ, ◌<◌, ◌≤◌, ◌⊎◌, List, [], length, map, ◌==◌, nat_eq, true, count_by, Contains, IsPermutation}
 use Rattle.std.specs.List.{AllByRecursion, IsDistinct}
+use Rattle.eleos_base.specs.Words.{is_busy, is_taken}
 use Rattle.eleos_base.specs.declared.memory.Looked.{Looked}
 use Rattle.eleos_base.specs.declared.memory.Reply.{Reply}
 use Rattle.eleos_base.specs.declared.memory.Reply.TheVariants.{Enough, Swept, Reached, Pinned, Short}
 use Rattle.eleos_core.specs.declared.event.Goal.{Goal}
 use Rattle.eleos_core.specs.declared.event.Goal.TheVariants.{Low, To}
-
--- the word shows BUSY (bit 0), or pins (from bit 8 on)
-abbrev pub is_busy : ℕ → Bool
-is_busy word = word % 2 == 1
-
-abbrev pub is_taken : ℕ → Bool
-is_taken word = is_busy word || nat_lt 0 (word / 256)
 
 -- the frames that the sweep names
 abbrev pub frames_in : List Looked → List ℕ

@@ -1,7 +1,8 @@
 // Searches among frames: what a sweep saw of them.
 ghost use Rattle.std.specs.Prelude.{◌≡◌, ◌↔◌, IfOk, IsTrue};
 ghost use Rattle.std.specs.List.{list_all};
-ghost use Rattle.eleos_core.specs.Sweeps.{IsTaken, frames_in, is_busy, is_taken};
+ghost use Rattle.eleos_base.specs.Words.{is_taken};
+ghost use Rattle.eleos_core.specs.Sweeps.{IsTaken, frames_in};
 
 mod lists;
 mod quiet;
@@ -9,27 +10,10 @@ mod surveys;
 mod waiting;
 
 use crate::sweeps::lists::are_same;
-use eleos_base::{Looked, NoMemory};
+use eleos_base::{CellWord, Looked, NoMemory};
 use std::alloc::Global;
 pub use surveys::survey_reply;
 pub use waiting::address_of;
-
-/// Words from here on count pins.
-const ONE_PIN: u64 = 256;
-
-/// The word shows BUSY.
-fn is_busy(word: u64) -> bool
-    ensures { result ≡ is_busy word }
-{
-    word % 2 == 1
-}
-
-/// The word shows pins or BUSY.
-fn is_taken(word: u64) -> bool
-    ensures { result ≡ is_taken word }
-{
-    is_busy(word) || word / ONE_PIN > 0
-}
 
 /// The frames that the sweep names.
 fn frames_in(alloc: Global, sweep: &[Looked]) -> Result<Vec<u32>, NoMemory>
@@ -57,5 +41,5 @@ pub fn is_all_taken(alloc: Global, sweep: &[Looked], frames: &[u32]) -> Result<b
 fn are_taken(sweep: &[Looked]) -> bool
     ensures { result ≡ list_all (λ seen. is_taken seen.word) sweep.now }
 {
-    sweep.iter().all(|seen| is_taken(seen.word))
+    sweep.iter().all(|seen| CellWord::new(seen.word).is_taken())
 }

@@ -33,12 +33,12 @@ same_store (Some s) = refl
 
 module _ {P : Type 0} (port : Ghosts P) (host : store.Ghosts P) where
   -- nothing crossed
-  pub crosses-none : (p : P) (place : ℕ) (blocks : List (List ℕ)) (puts : List (ℕ × List ℕ)) → blocks ≡ [] → puts ≡ [] → Crosses port host p p (at_place place blocks) puts
+  pub crosses-none : (p : TapState P) (place : ℕ) (blocks : List (List ℕ)) (puts : List (ℕ × List ℕ)) → blocks ≡ [] → puts ≡ [] → Crosses port host p p (at_place place blocks) puts
   crosses-none p place blocks puts no_blocks no_puts = subst (λ bs. Crosses port host p p (at_place place bs) puts) (sym no_blocks)
-      (subst (Crosses port host p p []) (sym no_puts) (record { gave = tt; took = tt; all_given = refl; all_taken = refl; store = same_store (host.store p) }))
+      (subst (Crosses port host p p []) (sym no_puts) (record { gave = tt; took = tt; all_given = refl; all_taken = refl; store = same_store (host.store p.port); no_begin = refl }))
 
   -- the same, of the same place and with the same blocks sealed
-  pub crosses-as : (old new : P) (place place' : ℕ) (blocks : List (List ℕ)) (puts puts' : List (ℕ × List ℕ)) → Crosses port host old new (at_place place blocks) puts → place ≡ place' → puts' ≡ puts
+  pub crosses-as : (old new : TapState P) (place place' : ℕ) (blocks : List (List ℕ)) (puts puts' : List (ℕ × List ℕ)) → Crosses port host old new (at_place place blocks) puts → place ≡ place' → puts' ≡ puts
       → Crosses port host old new (at_place place' blocks) puts'
   crosses-as old new place place' blocks puts puts' crossed at same =
       subst (λ s. Crosses port host old new (at_place s blocks) puts') at (subst (Crosses port host old new (at_place place blocks)) (sym same) crossed)

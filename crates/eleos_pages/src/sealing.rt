@@ -1,74 +1,137 @@
-// The text of a sub-page whose page is absent, and the block that it is sealed to.
+// The text of a sub-page whose page is absent, and the blocks that it is opened from and sealed to.
 ghost use Rattle.std.specs.Prelude.{◌≡◌, ◌+◌, ◌<◌, ◌≤◌, ◌^◌, ◌∷◌, [], length, Some, None, is_some, if◌then◌else◌};
+ghost use Rattle.std.specs.Option.{option_to_list};
 ghost use Rattle.eleos_core.specs.Accesses.{Opens, resealed};
 ghost use Rattle.eleos_core.specs.Cells.{part_with, sub_size};
+ghost use Rattle.eleos_core.specs.Evicts.{sealed_block, sealed_sub};
 ghost use Rattle.eleos_core.specs.Seals.{seals_by};
-ghost use Rattle.eleos_pages.specs.Crossed.{Crosses, IsReady, at_place, came, came_if, last_of};
-ghost use Rattle.eleos_host.specs.Taps.{failed_block};
+ghost use Rattle.eleos_core.specs.Texts.{came_for};
+ghost use Rattle.eleos_pages.specs.Crossed.{Crosses, at_place, came_in, fetched_if, last_of, opened_by};
+ghost use Rattle.eleos_host.specs.declared.slot.TheConstants.{SLOTS};
+ghost use Rattle.eleos_host.specs.Taps.{IsIdle, block_of, failed_block, with_lent, with_port};
 
 use eleos_base::Sealer;
-use eleos_core::SubPage;
-use eleos_host::{HostPort, Tap};
+use eleos_core::{SubPage, open_text, seal_dirty};
+use eleos_host::{HostPort, SLOTS, Tap};
 
 /// Bytes of a sub-page.
 pub(crate) const SUB_BYTES: usize = 1024;
 
-/// The slot into which a sub-page's block comes from the host.
-const COME: usize = 0;
+/// The slot into which the block of an access comes from the host.
+pub(crate) const COME: usize = 0;
 
-/// The slot from which a sub-page's block goes to the host.
-const GONE: usize = 1;
+/// The slot from which the block of an access goes to the host.
+pub(crate) const GONE: usize = 1;
 
-/// Opens the sub-page's text: zeros where it is blank, else what the block opens to that the host gives.
-/// Answers whether that block passed. Where it did not, the tap names it.
+/// Opens the sub-page's text: zeros where it is blank, else what the block opens to that the host gives
+/// into the slot. Answers whether that block passed. Where it did not, the tap names it.
 pub fn open_sub<S: Sealer, P: HostPort>(
     sealer: &S,
     tap: &mut Tap<P>,
     sub: &SubPage,
     place: u32,
+    slot: usize,
     text: &mut [u8],
 ) -> bool
-    requires ready { IsReady tap.old }
+    requires slot { slot < SLOTS }
+    requires idle { IsIdle tap.old slot }
+    requires passed { tap.old.failed ≡ None }
     requires size { length text.old ≡ sub_size }
-    ensures opens { Opens (seals_by (S.key sealer.now)) place (part_with sub.now []) (came tap.new)
-        (if result then Some text.new else None) }
-    ensures crossed { Crosses P.HostPort.own P.HostStore.own tap.old.port tap.new.port
-        (at_place place (came tap.new)) [] }
-    ensures block { came tap.new ≡ came_if (is_some sub.now.tag) tap.new }
-    ensures failed { failed_block tap.new ≡ (if result then None else last_of (came tap.new)) }
+    ensures opens { Opens (seals_by (S.key sealer.now)) place (part_with sub.now [])
+        (came_in slot tap.new) (if result then Some text.new else None) }
+    ensures crossed { Crosses P.HostPort.own P.HostStore.own tap.old tap.new
+        (at_place place (came_in slot tap.new)) [] }
+    ensures block { came_in slot tap.new
+        ≡ came_for (part_with sub.now []) (block_of tap.new slot) }
+    ensures tap { tap.new ≡ opened_by (is_some sub.now.tag) result slot tap.old tap.new.port
+        (block_of tap.new slot) }
+    ensures failed { failed_block tap.new
+        ≡ (if result then None else last_of (came_in slot tap.new)) }
 {
-    if sub.tag.is_none() {
-        text.fill(0);
+    fetch_for(tap, sub, place, slot);
+    if open_text(sealer, sub, place, tap.block(slot), text) {
         return true;
     }
-    tap.fetch(place, COME);
-    text.copy_from_slice(tap.block(COME));
-    if sub.open(sealer, place, text) {
-        return true;
-    }
-    tap.fail(COME);
+    tap.fail(slot);
     false
 }
 
-/// Seals the sub-page's text at the next version, and hands the block to the host.
+/// Lets the sub-page's block come into the slot, where it lies sealed.
+fn fetch_for<P: HostPort>(tap: &mut Tap<P>, sub: &SubPage, place: u32, slot: usize)
+    requires slot { slot < SLOTS }
+    requires idle { IsIdle tap.old slot }
+    ensures tap { tap.new
+        ≡ fetched_if (is_some sub.now.tag) slot tap.old tap.new.port (block_of tap.new slot) }
+    ensures block { came_in slot tap.new
+        ≡ came_for (part_with sub.now []) (block_of tap.new slot) }
+    ensures crossed { Crosses P.HostPort.own P.HostStore.own tap.old tap.new
+        (at_place place (came_in slot tap.new)) [] }
+{
+    if sub.tag.is_some() {
+        tap.fetch(place, slot);
+    }
+}
+
+/// Seals the sub-page's text at the next version, and hands the block to the host from the slot.
 pub fn seal_sub<S: Sealer, P: HostPort>(
     sealer: &S,
     tap: &mut Tap<P>,
     sub: &mut SubPage,
     place: u32,
+    slot: usize,
     text: &mut [u8],
 )
+    requires slot { slot < SLOTS }
     requires room { sub.old.version + 1 < 2 ^ 64 }
+    requires size { length text.old ≡ sub_size }
+    ensures part { part_with sub.new []
+        ≡ resealed (seals_by (S.key sealer.now)) place (part_with sub.old []) text.old }
+    ensures crossed { Crosses P.HostPort.own P.HostStore.own tap.old tap.new []
+        ((place, (seals_by (S.key sealer.now)).seal place (sub.old.version + 1) text.old) ∷ []) }
+    ensures tap { tap.new ≡ with_port (with_lent tap.old slot text.new) tap.new.port }
+{
+    sub.seal(sealer, place, text);
+    hand_over(tap, place, slot, text);
+}
+
+/// Seals a sub-page that leaves its frame, in place, and hands the block to the host from the slot,
+/// where a write to it is not sealed yet. Answers how many blocks that were.
+pub fn evict_sub<S: Sealer, P: HostPort>(
+    sealer: &S,
+    tap: &mut Tap<P>,
+    sub: &mut SubPage,
+    place: u32,
+    slot: usize,
+    text: &mut [u8],
+) -> u32
+    requires slot { slot < SLOTS }
+    requires room { sub.old.version ≤ 2 ^ 63 }
     requires size { length text.old ≡ sub_size }
     requires passed { tap.old.failed ≡ None }
     ensures part { part_with sub.new []
-        ≡ resealed (seals_by (S.key sealer.now)) place (part_with sub.old []) text.old }
-    ensures crossed { Crosses P.HostPort.own P.HostStore.own tap.old.port tap.new.port []
-        ((place, (seals_by (S.key sealer.now)).seal place (sub.old.version + 1) text.old) ∷ []) }
-    ensures came { came tap.new ≡ came tap.old }
+        ≡ sealed_sub (seals_by (S.key sealer.now)) place (part_with sub.old text.old) }
+    ensures crossed { Crosses P.HostPort.own P.HostStore.own tap.old tap.new []
+        (option_to_list (sealed_block (seals_by (S.key sealer.now)) place
+        (part_with sub.old text.old))) }
+    ensures count { result ≡ length (option_to_list (sealed_block (seals_by (S.key sealer.now)) place
+        (part_with sub.old text.old))) }
     ensures passed { tap.new.failed ≡ None }
 {
-    sub.seal(sealer, place, text);
-    tap.block_mut(GONE).copy_from_slice(text);
-    tap.store(place, GONE);
+    if !seal_dirty(sealer, sub, place, text) {
+        return 0;
+    }
+    hand_over(tap, place, slot, text);
+    1
+}
+
+/// Hands the block to the host from the slot.
+fn hand_over<P: HostPort>(tap: &mut Tap<P>, place: u32, slot: usize, block: &[u8])
+    requires slot { slot < SLOTS }
+    requires size { length block.now ≡ sub_size }
+    ensures crossed { Crosses P.HostPort.own P.HostStore.own tap.old tap.new []
+        ((place, block.now) ∷ []) }
+    ensures tap { tap.new ≡ with_port (with_lent tap.old slot block.now) tap.new.port }
+{
+    tap.block_mut(slot).copy_from_slice(block);
+    tap.store(place, slot);
 }

@@ -4,12 +4,12 @@ ghost use Rattle.std.specs.Prelude.{Some, None, count_by, length};
 ghost use Rattle.std.specs.List.{list_all};
 ghost use Rattle.eleos_core.specs.Surveys.{IsTheReply};
 ghost use Rattle.eleos_core.specs.Sweeps.{IsEnough, IsShort, IsSwept, SurveyReply};
-ghost use Rattle.eleos_core.specs.Sweeps.{is_busy, is_taken};
+ghost use Rattle.eleos_base.specs.Words.{is_busy, is_taken};
 
 use crate::event::Goal;
 use crate::sweeps::lists::{are_distinct, are_listed, are_same};
-use crate::sweeps::{frames_in, is_all_taken, is_busy, is_taken};
-use eleos_base::{Looked, NoMemory, Reply};
+use crate::sweeps::{frames_in, is_all_taken};
+use eleos_base::{CellWord, Looked, NoMemory, Reply};
 use std::alloc::Global;
 
 /// The one answer to a search among these frames, if the sweep allows one.
@@ -147,13 +147,11 @@ fn are_free(sweep: &[Looked]) -> bool
 fn are_free_or_taken(sweep: &[Looked]) -> bool
     ensures { result ≡ list_all (λ seen. seen.word == 0 || is_taken seen.word) sweep.now }
 {
-    sweep
-        .iter()
-        .all(|seen| seen.word == 0 || is_taken(seen.word))
+    sweep.iter().all(|seen| seen.word == 0 || CellWord::new(seen.word).is_taken())
 }
 
 fn are_busy(sweep: &[Looked]) -> bool
     ensures { result ≡ list_all (λ seen. is_busy seen.word) sweep.now }
 {
-    sweep.iter().all(|seen| is_busy(seen.word))
+    sweep.iter().all(|seen| CellWord::new(seen.word).is_busy())
 }

@@ -1,49 +1,44 @@
-use Rattle.std.proofs.Common.{◌<◌, ◌∙◌, length, arith, sym}
+use Rattle.std.proofs.Common.{◌<◌, ◌∙◌, length, sym, ap, subst, arith}
+use Rattle.eleos_core.specs.Cells.{part_of_page}
 use Rattle.eleos_core.specs.Seals.{seals_by}
+use Rattle.eleos_pages.specs.Accesses.{WritesOn, sealed_by}
+use Rattle.eleos_pages.specs.Replies.{write_reply}
 use Rattle.eleos_pages.proofs.CrossedBlocks.{came-idle, crosses-none}
-use Rattle.eleos_pages.proofs.Reading.{refusal-found}
-use Rattle.eleos_pages.proofs.Writing.{worn-found, write_refused, write_worn}
+use Rattle.eleos_pages.proofs.Writing.{write_goes, write_stopped}
 use Rattle.eleos_pages.proofs.writes.write_page.Goals as goal
 
 pub returns-in-Some-clause-writes : goal.returns-in-Some-clause-writes
 returns-in-Some-clause-writes g c =
     let inside : c.spot_of-spot.result.index < length c.args.page.now.subs.items = (let whole = c.requires.page.whole in let in_page = c.spot_of-spot.ensures.in_page in omega arith) in
-    (write_refused c.args.plan.now (seals_by (g.S.Sealer.key c.args.sealer.now)) c.args.who c.args.at c.args.bytes.now c.args.page.now _ _ c.requires.range
-    (refusal-found c.args.plan.now c.args.who c.args.at (length c.args.bytes.now) c.args.page.now c.spot_of-spot.result c.index-sub.result.now c.spot_of-spot.ensures inside c.index-sub.ensures c.requires.range
-    ∙ sym c.in-Some.ensures) (came-idle c.args.tap.now c.requires.ready.idle)).on
+    (write_stopped c.args.plan.now (seals_by (g.S.Sealer.key c.args.sealer.now)) c.args.who c.args.at c.args.bytes.now c.args.page.now c.spot_of-spot.result c.index.result.now c.spot_of-spot.ensures inside c.index.ensures c.requires.range
+    _ _ (sym c.in-Some.ensures) (came-idle c.args.tap.now c.requires.ready.idle)).on
 
 pub returns-in-Some-clause-crossed : goal.returns-in-Some-clause-crossed
 returns-in-Some-clause-crossed g c =
     let inside : c.spot_of-spot.result.index < length c.args.page.now.subs.items = (let whole = c.requires.page.whole in let in_page = c.spot_of-spot.ensures.in_page in omega arith) in
-    crosses-none g.P.HostPort g.P.HostStore c.args.tap.now.port _ _ _ (came-idle c.args.tap.now c.requires.ready.idle)
-    (write_refused c.args.plan.now (seals_by (g.S.Sealer.key c.args.sealer.now)) c.args.who c.args.at c.args.bytes.now c.args.page.now _ _ c.requires.range
-    (refusal-found c.args.plan.now c.args.who c.args.at (length c.args.bytes.now) c.args.page.now c.spot_of-spot.result c.index-sub.result.now c.spot_of-spot.ensures inside c.index-sub.ensures c.requires.range
-    ∙ sym c.in-Some.ensures) (came-idle c.args.tap.now c.requires.ready.idle)).puts_are
+    crosses-none g.P.HostPort g.P.HostStore c.args.tap.now _ _ _ (came-idle c.args.tap.now c.requires.ready.idle)
+    (write_stopped c.args.plan.now (seals_by (g.S.Sealer.key c.args.sealer.now)) c.args.who c.args.at c.args.bytes.now c.args.page.now c.spot_of-spot.result c.index.result.now c.spot_of-spot.ensures inside c.index.ensures c.requires.range
+    _ _ (sym c.in-Some.ensures) (came-idle c.args.tap.now c.requires.ready.idle)).puts_are
 
-pub returns-then-is_worn-clause-writes : goal.returns-then-is_worn-clause-writes
-returns-then-is_worn-clause-writes g c =
+pub write_absent-requires-clause-accepted : goal.write_absent-requires-clause-accepted
+write_absent-requires-clause-accepted g c =
     let inside : c.spot_of-spot.result.index < length c.args.page.now.subs.items = (let whole = c.requires.page.whole in let in_page = c.spot_of-spot.ensures.in_page in omega arith) in
-    let accepted = refusal-found c.args.plan.now c.args.who c.args.at (length c.args.bytes.now) c.args.page.now c.spot_of-spot.result c.index-sub.result.now c.spot_of-spot.ensures inside c.index-sub.ensures c.requires.range
-    ∙ sym c.in_default.ensures in
-    (write_worn c.args.plan.now (seals_by (g.S.Sealer.key c.args.sealer.now)) c.args.who c.args.at c.args.bytes.now c.args.page.now c.spot_of-spot.result accepted c.spot_of-spot.ensures inside
-    _ c.index-sub.result.now c.index-sub.ensures (sym c.if-is_worn.ensures) (came-idle c.args.tap.now c.requires.ready.idle)).on
+    (write_goes c.args.plan.now (seals_by (g.S.Sealer.key c.args.sealer.now)) c.args.who c.args.at c.args.bytes.now c.args.page.now c.spot_of-spot.result c.index.result.now c.spot_of-spot.ensures inside c.index.ensures c.requires.range
+    (sym c.in_default.ensures)).0
 
-pub returns-then-is_worn-clause-crossed : goal.returns-then-is_worn-clause-crossed
-returns-then-is_worn-clause-crossed g c =
+pub write_absent-requires-clause-fresh : goal.write_absent-requires-clause-fresh
+write_absent-requires-clause-fresh g c =
     let inside : c.spot_of-spot.result.index < length c.args.page.now.subs.items = (let whole = c.requires.page.whole in let in_page = c.spot_of-spot.ensures.in_page in omega arith) in
-    let accepted = refusal-found c.args.plan.now c.args.who c.args.at (length c.args.bytes.now) c.args.page.now c.spot_of-spot.result c.index-sub.result.now c.spot_of-spot.ensures inside c.index-sub.ensures c.requires.range
-    ∙ sym c.in_default.ensures in
-    crosses-none g.P.HostPort g.P.HostStore c.args.tap.now.port _ _ _ (came-idle c.args.tap.now c.requires.ready.idle)
-    (write_worn c.args.plan.now (seals_by (g.S.Sealer.key c.args.sealer.now)) c.args.who c.args.at c.args.bytes.now c.args.page.now c.spot_of-spot.result accepted c.spot_of-spot.ensures inside
-    _ c.index-sub.result.now c.index-sub.ensures (sym c.if-is_worn.ensures) (came-idle c.args.tap.now c.requires.ready.idle)).puts_are
+    (write_goes c.args.plan.now (seals_by (g.S.Sealer.key c.args.sealer.now)) c.args.who c.args.at c.args.bytes.now c.args.page.now c.spot_of-spot.result c.index.result.now c.spot_of-spot.ensures inside c.index.ensures c.requires.range
+    (sym c.in_default.ensures)).1
 
-pub write_used-requires-clause-accepted : goal.write_used-requires-clause-accepted
-write_used-requires-clause-accepted g c =
-    let inside : c.spot_of-spot.result.index < length c.args.page.now.subs.items = (let whole = c.requires.page.whole in let in_page = c.spot_of-spot.ensures.in_page in omega arith) in
-    refusal-found c.args.plan.now c.args.who c.args.at (length c.args.bytes.now) c.args.page.now c.spot_of-spot.result c.index-sub.result.now c.spot_of-spot.ensures inside c.index-sub.ensures c.requires.range
-    ∙ sym c.in_default.ensures
+pub returns-then-is_some-clause-writes : goal.returns-then-is_some-clause-writes
+returns-then-is_some-clause-writes g c =
+    subst (λ blocks. WritesOn c.args.plan.now (seals_by (g.S.Sealer.key c.args.sealer.now)) c.args.who c.args.at c.args.bytes.now blocks (part_of_page c.args.page.now) (write_reply c.write_present.result) (part_of_page c.write_present.new.page))
+    (sym (came-idle c.args.tap.now c.requires.ready.idle)) (c.write_present.ensures.writes (seals_by (g.S.Sealer.key c.args.sealer.now)))
 
-pub write_used-requires-clause-fresh : goal.write_used-requires-clause-fresh
-write_used-requires-clause-fresh g c =
-    let inside : c.spot_of-spot.result.index < length c.args.page.now.subs.items = (let whole = c.requires.page.whole in let in_page = c.spot_of-spot.ensures.in_page in omega arith) in
-    worn-found c.args.plan.now c.args.at c.args.page.now c.spot_of-spot.result c.index-sub.result.now c.spot_of-spot.ensures inside c.index-sub.ensures ∙ sym c.if-is_worn.ensures
+pub returns-then-is_some-clause-crossed : goal.returns-then-is_some-clause-crossed
+returns-then-is_some-clause-crossed g c =
+    crosses-none g.P.HostPort g.P.HostStore c.args.tap.now _ _ _ (came-idle c.args.tap.now c.requires.ready.idle)
+    (ap (λ blocks. sealed_by c.args.plan.now (seals_by (g.S.Sealer.key c.args.sealer.now)) c.args.who c.args.at c.args.bytes.now blocks (part_of_page c.args.page.now) (write_reply c.write_present.result))
+    (came-idle c.args.tap.now c.requires.ready.idle) ∙ c.write_present.ensures.sealed (seals_by (g.S.Sealer.key c.args.sealer.now)))
