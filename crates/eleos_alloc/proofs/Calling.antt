@@ -27,6 +27,8 @@ use Rattle.eleos_core.proofs.InOrder.{in_order-with_block, is_free_run-le, lowes
 use Rattle.eleos_core.proofs.Numbers.{some_subs}
 use Rattle.eleos_core.proofs.Sets.{cell_of-alloc, page_not_alloc}
 use Rattle.eleos_core.proofs.SubPages.{few_pages, home_within, is_home}
+use Rattle.eleos_plot.specs.Terms.{core_terms}
+use Rattle.eleos_turn.proofs.Clients.{goes_links}
 use Rattle.eleos_machine.specs.Machines.{IsMachine, Site, plan_at}
 use Rattle.eleos_machine.specs.Passes.{PassState, part_seen, plan_of, seals_of}
 use Rattle.eleos_machine.specs.Stamping.{HasStamped, MayStamp}
@@ -85,6 +87,9 @@ called s op reply len s' is = record {
   legal = is.legal;
   turns = is.turns;
   pins = is.pins;
+  links = goes_links core_terms s.hand s'.hand ((is.place, stamp_of s.hand.number (Op op) [] reply len) ∷ []) is.goes (refl, tt);
+  refused = is.refused;
+  rest = is.rest ∙ ap (λ d. record s { hand = s'.hand; draft = d }) (sym (ap (λ (y : PassState). y.draft) is.rest));
 }
 
 -- a caller's pass that has the turn of its enclave's live blocks

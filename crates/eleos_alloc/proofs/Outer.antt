@@ -18,7 +18,7 @@ use Rattle.eleos_core.specs.State.{entry}
 use Rattle.eleos_plot.specs.Terms.{core_terms}
 use Rattle.eleos_turn.specs.Hands.{Goes}
 use Rattle.eleos_turn.specs.Numbers.{less_one}
-use Rattle.eleos_turn.proofs.Clients.{goes_given, goes_trans}
+use Rattle.eleos_turn.proofs.Clients.{goes_given, goes_links, goes_trans}
 use Rattle.eleos_machine.specs.Machines.{Site, plan_at, seals_at}
 use Rattle.eleos_machine.specs.Passes.{PassState, gave, part_seen, plan_of}
 use Rattle.eleos_machine.specs.Stamping.{HasStamped, MayStamp}
@@ -45,8 +45,8 @@ module _ (z : Site) (s : PassState) (can : CanCall z s) where
           };
         }))
 
-    pub said_bad : (s1 s2 : PassState) (place : ℕ) → s1 ≡ drafted s (calls.Alloc n) BadSize 0 → HasStamped s1 place s2 → HasCalled s (calls.Alloc n) BadSize s2
-    said_bad s1 s2 place is stamped = called s (calls.Alloc n) BadSize 0 s2 (subst (λ (y : PassState). HasStampedWith y s2) is (stamped_with s1 place s2 stamped))
+  pub said_bad : (n : ℕ) (s1 s2 : PassState) (place : ℕ) → s1 ≡ drafted s (calls.Alloc n) BadSize 0 → HasStamped s1 place s2 → HasCalled s (calls.Alloc n) BadSize s2
+  said_bad n s1 s2 place is stamped = called s (calls.Alloc n) BadSize 0 s2 (subst (λ (y : PassState). HasStampedWith y s2) is (stamped_with s1 place s2 stamped))
 
   -- the others take the turn of the blocks
   module _ (e : ℕ) (blocks : List Live) (s1 : PassState) (taken : HasTaken e s blocks s1) where
@@ -80,6 +80,9 @@ module _ (z : Site) (s : PassState) (can : CanCall z s) where
         legal = subst (λ (y : Site × ℕ). CoreStep (plan_at y.0) (seals_at y.0) made.past (entry y.1 (Op op) [] reply)) (λ i. (taken.goes.home i, taken.goes.number i)) made.legal;
         turns = ap (less_one e) (made.turns ∙ taken.holds.turns) ∙ (ap (λ (b : Bool). cond b [] (e ∷ [])) (eq-eqb e e refl) ∙ sym can.idle);
         pins = made.pins ∙ taken.pins;
+        links = λ c. made.links c ∙ goes_links core_terms s.hand s1.hand [] taken.goes tt c;
+        refused = made.refused ∙ taken.refused;
+        rest = ap (λ (y : PassState). gave y e) made.rest ∙ ap (λ (y : PassState). record y { hand = (gave s2 e).hand; draft = s2.draft }) taken.rest;
       }
 
       pub done_then : (cell : ℕ) (s3 : PassState) → cell ≡ e → s3 ≡ gave s2 cell → HasCalled s op reply s3

@@ -60,6 +60,8 @@ stamped_with s n s' is = record {
   legal = is.legal;
   turns = ap (λ hand. hand.turns) is.stamped.now;
   pins = ap (λ hand. hand.pins) is.stamped.now;
+  refused = ap (λ hand. hand.refused) is.stamped.now;
+  rest = is.rest;
   touched = λ c has in_foot. is.touched c in_foot;
 }
 
@@ -107,10 +109,10 @@ module _ (s : PassState) (run : Run) (mark : Mark) (page : ℕ) (can : CanStampW
       page_fits = subst (λ (cell : Numbered). Fits k cell value) (cell_of-page k page next.exists) took.fits
 
       abbrev taken : PassState
-      taken = record { hand = with_turn s.hand took.took.more (page_cell k page) n; draft = s.draft }
+      taken = record s { hand = with_turn s.hand took.took.more (page_cell k page) n }
 
       is_taken : s' ≡ taken
-      is_taken = λ i. record { hand = took.took.now i; draft = took.draft i }
+      is_taken = took.rest ∙ (λ i. record s { hand = took.took.now i })
 
       held : (d : ℕ) → Has d s.hand.turns → part_seen taken d ≡ part_seen s d
       held = subst (λ (y : PassState). (d : ℕ) → Has d s.hand.turns → part_seen y d ≡ part_seen s d) is_taken took.held
@@ -176,6 +178,8 @@ module _ (s : PassState) (run : Run) (mark : Mark) (page : ℕ) (can : CanStampW
           legal = stamped.legal;
           turns = ap (less_one (page_cell k page)) stamped.turns ∙ ap (λ (b : Bool). cond b s.hand.turns (page_cell k page ∷ less_one (page_cell k page) s.hand.turns)) (eq-eqb (page_cell k page) (page_cell k page) refl);
           pins = stamped.pins;
+          refused = stamped.refused;
+          rest = ap (λ (y : PassState). gave y (page_cell k page)) stamped.rest;
           touched = λ c has in_foot. stamped.touched c (inr has) in_foot ∙ ap (part_after k x s.draft (cell_of k c)) (held c has);
         }
 

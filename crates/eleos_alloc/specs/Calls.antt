@@ -10,7 +10,7 @@ use Rattle.eleos_core.specs.Applying.{stamp_of}
 use Rattle.eleos_core.specs.Legal.{CoreStep}
 use Rattle.eleos_core.specs.State.{History, entry}
 use Rattle.eleos_plot.specs.Terms.{core_terms}
-use Rattle.eleos_turn.specs.Hands.{Goes}
+use Rattle.eleos_turn.specs.Hands.{Goes, links_on}
 use Rattle.eleos_machine.specs.Machines.{Site, plan_at}
 use Rattle.eleos_machine.specs.Passes.{PassState, plan_of, seals_of, seen}
 use Rattle.eleos_base.specs.declared.refusals.AllocRefused.{AllocRefused}
@@ -37,6 +37,10 @@ pub record HasCalled (s : PassState) (op : Calls) (reply : Reply) (s' : PassStat
   pub legal : CoreStep (plan_of s) (seals_of s) past (entry s.hand.number (Op op) [] reply)
   pub turns : s'.hand.turns ≡ s.hand.turns
   pub pins : s'.hand.pins ≡ s.hand.pins
+  pub links : (c : ℕ) → links_on core_terms s'.hand c ≡ links_on core_terms s.hand c
+  pub refused : s'.hand.refused ≡ s.hand.refused
+  -- all but the hand and the draft stays
+  pub rest : s' ≡ record s { hand = s'.hand; draft = s'.draft }
 
 -- an answer as the reply of its entry
 abbrev pub alloc_reply : Result Addr AllocRefused → Reply

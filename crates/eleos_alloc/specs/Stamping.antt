@@ -38,6 +38,9 @@ pub record CanCallWith (z : Site) (e : ℕ) (blocks : List Live) (s : PassState)
 pub record HasTaken (e : ℕ) (s : PassState) (blocks : List Live) (s' : PassState) : Type 0 where
   pub goes : Goes core_terms s.hand s'.hand []
   pub pins : s'.hand.pins ≡ s.hand.pins
+  pub refused : s'.hand.refused ≡ s.hand.refused
+  -- all but the hand stays
+  pub rest : s' ≡ record s { hand = s'.hand }
   pub holds : HoldsBlocks e s' blocks
 
 -- the cell is that of one of the pages from this one on, up to the end
@@ -81,4 +84,7 @@ pub record HasStampedWith (s s' : PassState) : Type 0 where
   pub legal : CoreStep (plan_of s) (seals_of s) past s.draft.entry
   pub turns : s'.hand.turns ≡ s.hand.turns
   pub pins : s'.hand.pins ≡ s.hand.pins
+  pub refused : s'.hand.refused ≡ s.hand.refused
+  -- all but the hand stays
+  pub rest : s' ≡ record s { hand = s'.hand }
   pub touched : (c : ℕ) → Has c s.hand.turns → Has c (foot (plan_of s) s.draft) → part_seen s' c ≡ after_at (plan_of s) (seals_of s) s.draft (part_seen s) c

@@ -11,6 +11,3 @@ mod refusals;
 mod runs;
 
 pub use calls::{alloc, free, share};
-
-#[cfg(test)]
-mod tests;

@@ -3,7 +3,7 @@ use Rattle.std.proofs.Common.{◌≡◌, ℕ, List, [], ◌∷◌, ◌++◌, con
 use Rattle.std.proofs.lemmas.Bool.{eq-eqb}
 use Rattle.eleos_base.specs.declared.plot.Event.{Event}
 use Rattle.eleos_base.specs.Histories.{Legal, linked, made, no_link, opened}
-use Rattle.eleos_base.specs.Ties.{Has}
+use Rattle.eleos_base.specs.Ties.{Has, neither}
 use Rattle.eleos_core.specs.Parts.{Part, Stamp, after_at}
 use Rattle.eleos_core.specs.State.{History}
 use Rattle.eleos_plot.specs.declared.plot.Ground.{Ground}
@@ -12,7 +12,7 @@ use Rattle.eleos_plot.specs.Terms.{bare_of, core_terms, tie_of}
 use Rattle.eleos_plot.proofs.Stamping.{plot_agrees}
 use Rattle.eleos_turn.specs.Hands.{Goes, HandState, without_turn}
 use Rattle.eleos_turn.specs.Numbers.{less_one, numbers_of}
-use Rattle.eleos_turn.proofs.Clients.{goes_given, goes_trans}
+use Rattle.eleos_turn.proofs.Clients.{goes_given, goes_links, goes_trans}
 use Rattle.eleos_turn.proofs.Histories.{legal_back, legal_front, made_append, made_apart}
 use Rattle.eleos_machine.specs.Machines.{IsMachine, Site}
 use Rattle.eleos_machine.specs.Passes.{IsLawful, PassState, gave, part_seen, plan_of, seals_of}
@@ -66,6 +66,10 @@ may_stamp s cell may = record {
   there = λ c taking. let none = sym (ap (λ e. tie_of (plan_of s) e s.draft.entry.reply) may.event) ∙ taking in cc;
 }
 
+-- all but the hand stays, so all but the hand and the draft does
+and_draft : (s s' : PassState) → s' ≡ record s { hand = s'.hand } → s' ≡ record s { hand = s'.hand; draft = s'.draft }
+and_draft s s' rest = rest ∙ ap (λ d. record s { hand = s'.hand; draft = d }) (sym (ap (λ (y : PassState). y.draft) rest))
+
 -- the draft was stamped, and the turn given back
 pub ends : (s s' : PassState) (cell n : ℕ) → MayEnter s cell → HasStamped s n s' → IsLawful s' → EntersHeld s cell s.draft (gave s' cell)
 ends s s' cell n may h law = record {
@@ -77,7 +81,9 @@ ends s s' cell n may h law = record {
     legal = h.legal;
     no_turn = only_turn cell s'.hand.turns (ap (λ (y : HandState Stamp Part Ground). y.turns) h.stamped.now ∙ may.turns);
     pins = ap (λ (y : HandState Stamp Part Ground). y.pins) h.stamped.now;
+    links = goes_links core_terms s.hand s'.hand ((n, s.draft) ∷ []) h.goes (ap (λ e. tie_of (plan_of s) e s.draft.entry.reply) may.event, tt);
     refused = ap (λ (y : HandState Stamp Part Ground). y.refused) h.stamped.now;
+    rest = ap (λ (y : PassState). gave y cell) (and_draft s s' h.rest);
   };
   before = before_stamp s s' n h law cell (subst (Has cell) (sym may.turns) (inl refl));
 }
@@ -87,13 +93,15 @@ pub made_of : (s s' : PassState) (cell n : ℕ) → MayEnter s cell → HasStamp
 made_of s s' cell n may h = h.touched cell (subst (Has cell) (sym may.touches) (inl refl))
 
 -- and an entry of no cell
-pub entered_outside : (s s' : PassState) (n : ℕ) → s.hand.turns ≡ [] → HasStamped s n s' → Enters s s.draft s'
-entered_outside s s' n none h = record {
+pub entered_outside : (s s' : PassState) (n : ℕ) → s.hand.turns ≡ [] → tie_of (plan_of s) s.draft.entry.event s.draft.entry.reply ≡ neither → HasStamped s n s' → Enters s s.draft s'
+entered_outside s s' n none untied h = record {
   past = h.past;
   goes = subst (λ (m : ℕ). Goes core_terms s.hand s'.hand ((m, s.draft) ∷ [])) h.place h.goes;
   sees = h.sees;
   legal = h.legal;
   no_turn = ap (λ (y : HandState Stamp Part Ground). y.turns) h.stamped.now ∙ none;
   pins = ap (λ (y : HandState Stamp Part Ground). y.pins) h.stamped.now;
+  links = goes_links core_terms s.hand s'.hand ((n, s.draft) ∷ []) h.goes (untied, tt);
   refused = ap (λ (y : HandState Stamp Part Ground). y.refused) h.stamped.now;
+  rest = and_draft s s' h.rest;
 }

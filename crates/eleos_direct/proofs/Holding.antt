@@ -26,8 +26,8 @@ use Rattle.eleos_plot.specs.declared.cell.Cell.{Cell}
 use Rattle.eleos_plot.specs.declared.plot.Ground.{Ground}
 use Rattle.eleos_plot.specs.Terms.{core_terms}
 use Rattle.eleos_turn.specs.Hands.{Goes, HandState, refused_at}
-use Rattle.eleos_turn.specs.Words.{IsBusy}
-use Rattle.eleos_turn.proofs.Clients.{goes_trans}
+use Rattle.eleos_base.specs.Words.{IsBusy}
+use Rattle.eleos_turn.proofs.Clients.{goes_links, goes_trans}
 use Rattle.eleos_machine.specs.Machines.{Site, plan_at, seals_at}
 use Rattle.eleos_machine.specs.Passes.{PassState, TookTurn, plan_of, seals_of}
 use Rattle.eleos_pages.specs.Accesses.{page_at}
@@ -58,28 +58,30 @@ refused_puts k x past who at new blocks reply refused step =
 
 module _ {P : Type 0} (port : Ghosts P) (host : store.Ghosts P) where
   -- what crossed after the tap had begun is all that crossed
-  pub since_begin : (before new : P) (tap : TapState P) (given taken : List (ℕ × List ℕ)) → HasBegun port host before tap → Crosses port host tap.port new given taken → HasCrossed port host before new given taken
+  pub since_begin : (before new tap : TapState P) (given taken : List (ℕ × List ℕ)) → HasBegun port host before tap → Crosses port host tap new given taken → HasCrossed port host before new given taken
   since_begin before new tap given taken begun crossed = record {
     gave = crossed.gave;
     took = crossed.took;
     all_given = crossed.all_given ∙ ap (λ told. with_crossings told given) begun.none_given;
     all_taken = crossed.all_taken ∙ ap (λ told. with_crossings told taken) begun.none_taken;
     store = crossed.store ∙ ap (option_map (λ s. with_puts s taken)) begun.same_store;
+    one_begin = crossed.no_begin ∙ begun.one_begin;
   }
 
   -- nothing crossed after it
-  pub none_since : (before : P) (tap : TapState P) (given taken : List (ℕ × List ℕ)) → given ≡ [] → taken ≡ [] → HasBegun port host before tap → HasCrossed port host before tap.port given taken
+  pub none_since : (before tap : TapState P) (given taken : List (ℕ × List ℕ)) → given ≡ [] → taken ≡ [] → HasBegun port host before tap → HasCrossed port host before tap given taken
   none_since before tap given taken no_given no_taken begun =
-      subst (λ gs. HasCrossed port host before tap.port gs taken) (sym no_given) (subst (HasCrossed port host before tap.port []) (sym no_taken) (record {
+      subst (λ gs. HasCrossed port host before tap gs taken) (sym no_given) (subst (HasCrossed port host before tap []) (sym no_taken) (record {
         gave = tt;
         took = tt;
         all_given = begun.none_given;
         all_taken = begun.none_taken;
-        store = same_store (host.store tap.port) (host.store before) begun.same_store;
+        store = same_store (host.store tap.port) (host.store before.port) begun.same_store;
+        one_begin = begun.one_begin;
       }))
 
   -- an access that is out of range
-  pub outside : (s s' : PassState) (before : P) (tap : TapState P) (at : Addr) (op : Calls) → HasBegun port host before tap
+  pub outside : (s s' : PassState) (before tap : TapState P) (at : Addr) (op : Calls) → HasBegun port host before tap
       → ((past : History) (blocks : List (List ℕ)) → CoreStep (plan_of s) (seals_of s) past (entry s.hand.number (Op op) blocks BadRange) → puts_of (plan_of s) (seals_of s) (entry s.hand.number (Op op) blocks BadRange) past ≡ [])
       → Enters s (access_stamp s op [] BadRange) s' → HasAccessed port host s before at op BadRange s' tap
   outside s s' before tap at op begun none entered =
@@ -91,34 +93,36 @@ module _ {P : Type 0} (port : Ghosts P) (host : store.Ghosts P) where
       }
 
   -- the entry of a pass after a take is one of the pass before it
-  abbrev entered_after : (s mid s' : PassState) (d d' : Stamp) → Goes core_terms s.hand mid.hand [] → mid.hand.pins ≡ s.hand.pins → mid.hand.refused ≡ s.hand.refused → d ≡ d' → Enters mid d s' → Enters s d' s'
-  entered_after s mid s' d d' goes pins refused same e = record {
+  abbrev entered_after : (s mid s' : PassState) (d d' : Stamp) → Goes core_terms s.hand mid.hand [] → mid.hand.pins ≡ s.hand.pins → mid.hand.refused ≡ s.hand.refused → mid ≡ record s { hand = mid.hand } → d ≡ d' → Enters mid d s' → Enters s d' s'
+  entered_after s mid s' d d' goes pins refused rest same e = record {
     past = e.past;
     goes = subst (λ (y : Stamp). Goes core_terms s.hand s'.hand ((length e.past, y) ∷ [])) same (goes_trans core_terms s.hand mid.hand s'.hand [] ((length e.past, d) ∷ []) goes e.goes);
     sees = e.sees ∙ ap (λ (y : Stamp). y.entry ∷ e.past) same;
     legal = subst (λ (y : Stamp). CoreStep (plan_of s) (seals_of s) e.past y.entry) same (subst (λ (z : Site). CoreStep (plan_at z) (seals_at z) e.past d.entry) goes.home e.legal);
     no_turn = e.no_turn;
     pins = e.pins ∙ pins;
+    links = λ c. e.links c ∙ goes_links core_terms s.hand mid.hand [] goes tt c;
     refused = e.refused ∙ refused;
+    rest = e.rest ∙ ap (λ (y : PassState). record y { hand = s'.hand; draft = s'.draft }) rest;
   }
 
   -- an access on the page whose turn was taken
-  pub accessed_after : (s mid s' : PassState) (before : P) (tap tap' : TapState P) (at : Addr) (op : Calls) (reply : Reply) (cell word : ℕ) (value : Cell)
+  pub accessed_after : (s mid s' : PassState) (before tap tap' : TapState P) (at : Addr) (op : Calls) (reply : Reply) (cell word : ℕ) (value : Cell)
       → TookTurn cell word s value mid → HasBegun port host before tap → AccessesHeld port host mid tap at op reply s' tap' → HasAccessed port host s before at op reply s' tap'
   accessed_after s mid s' before tap tap' at op reply cell word value took begun a =
       let home : mid.hand.home ≡ s.hand.home = took.goes.home in
       let number : mid.hand.number ≡ s.hand.number = took.goes.number in record {
         entered = entered_after s mid s' (access_stamp mid op (came tap') reply) (access_stamp s op (came tap') reply) took.goes
-            (ap (λ (y : HandState Stamp _ Ground). y.pins) took.took.now) (ap (λ (y : HandState Stamp _ Ground). y.refused) took.took.now)
+            (ap (λ (y : HandState Stamp _ Ground). y.pins) took.took.now) (ap (λ (y : HandState Stamp _ Ground). y.refused) took.took.now) took.rest
             (ap (λ who. stamp_of who (Op op) (came tap') reply 0) number) a.entered;
-        crossed = since_begin before tap'.port tap _ _ begun
-            (subst (λ (z : Site). Crosses port host tap.port tap'.port (at_place (sub_of (plan_at z) at) (came tap')) (puts_of (plan_at z) (seals_at z) (entry s.hand.number (Op op) (came tap') reply) a.entered.past)) home
-            (subst (λ who. Crosses port host tap.port tap'.port (at_place (sub_of (plan_of mid) at) (came tap')) (puts_of (plan_of mid) (seals_of mid) (entry who (Op op) (came tap') reply) a.entered.past)) number a.crossed));
+        crossed = since_begin before tap' tap _ _ begun
+            (subst (λ (z : Site). Crosses port host tap tap' (at_place (sub_of (plan_at z) at) (came tap')) (puts_of (plan_at z) (seals_at z) (entry s.hand.number (Op op) (came tap') reply) a.entered.past)) home
+            (subst (λ who. Crosses port host tap tap' (at_place (sub_of (plan_of mid) at) (came tap')) (puts_of (plan_of mid) (seals_of mid) (entry who (Op op) (came tap') reply) a.entered.past)) number a.crossed));
         spoiled = a.spoiled;
       }
 
   -- a try that found the page busy
-  pub found_busy : (z : Site) (s s' : PassState) (before : P) (tap : TapState P) (at : Addr) (n cell word : ℕ) → s.hand.home ≡ z → HasBegun port host before tap → IsPageOf (plan_at z) s.hand.number at n cell → IsBusy word
+  pub found_busy : (z : Site) (s s' : PassState) (before tap : TapState P) (at : Addr) (n cell word : ℕ) → s.hand.home ≡ z → HasBegun port host before tap → IsPageOf (plan_at z) s.hand.number at n cell → IsBusy word
       → s' ≡ record s { hand = refused_at s.hand cell word } → FoundBusy port host s before at n word s' tap
   found_busy z s s' before tap at n cell word own begun page busy refused =
       let p : IsPageOf (plan_of s) s.hand.number at n cell = subst (λ (y : Site). IsPageOf (plan_at y) s.hand.number at n cell) (sym own) page in record {

@@ -10,7 +10,7 @@ use Rattle.eleos_host.specs.declared.port.HostPort.{Ghosts}
 use Rattle.eleos_host.specs.declared.port.HostStore as store
 use Rattle.eleos_host.specs.Taps.{TapState, failed_block}
 use Rattle.eleos_turn.specs.Hands.{refused_at}
-use Rattle.eleos_turn.specs.Words.{IsBusy}
+use Rattle.eleos_base.specs.Words.{IsBusy}
 use Rattle.eleos_machine.specs.Passes.{PassState, plan_of, seals_of}
 use Rattle.eleos_pages.specs.Accesses.{IsAccess, page_at}
 use Rattle.eleos_pages.specs.Crossed.{HasCrossed, at_place, came, spoiled_by}
@@ -21,22 +21,23 @@ use Rattle.eleos_direct.specs.Entered.{Enters}
 use Rattle.eleos_direct.specs.Held.{access_stamp}
 
 module _ {P : Type 0} (port : Ghosts P) (host : store.Ghosts P) where
-  -- the access is the pass's one new entry, with the block that came for it, if one did. In this call the host gave that block alone, for
-  -- the sub-page of the address, and took just the blocks that the entry seals. Where the block did not pass the tap names it.
-  pub record HasAccessed (s : PassState) (before : P) (at : Addr) (op : Calls) (reply : Reply) (s' : PassState) (tap : TapState P) : Type 0 where
+  -- the access is the pass's one new entry, with the block that came for it, if one did. The call began its tap once, so that what crossed
+  -- since then is all that crossed in it: the host gave that block alone, for the sub-page of the address, and took just the blocks that the
+  -- entry seals. Where the block did not pass the tap names it.
+  pub record HasAccessed (s : PassState) (before : TapState P) (at : Addr) (op : Calls) (reply : Reply) (s' : PassState) (tap : TapState P) : Type 0 where
     pub entered : Enters s (access_stamp s op (came tap) reply) s'
-    pub crossed : HasCrossed port host before tap.port (at_place (sub_of (plan_of s) at) (came tap)) (puts_of (plan_of s) (seals_of s) (access_stamp s op (came tap) reply).entry entered.past)
+    pub crossed : HasCrossed port host before tap (at_place (sub_of (plan_of s) at) (came tap)) (puts_of (plan_of s) (seals_of s) (access_stamp s op (came tap) reply).entry entered.past)
     pub spoiled : failed_block tap ≡ spoiled_by reply (came tap)
 
   -- this call's try found the page of an access that is in range busy: nothing was stamped, and nothing crossed
-  pub record FoundBusy (s : PassState) (before : P) (at : Addr) (n : ℕ) (word : ℕ) (s' : PassState) (tap : TapState P) : Type 0 where
+  pub record FoundBusy (s : PassState) (before : TapState P) (at : Addr) (n : ℕ) (word : ℕ) (s' : PassState) (tap : TapState P) : Type 0 where
     pub in_range : IsAccess (plan_of s) s.hand.number at n
     pub busy : IsBusy word
     pub refused : s' ≡ record s { hand = refused_at s.hand (page_cell (plan_of s) (page_at (plan_of s) at)) word }
-    pub crossed : HasCrossed port host before tap.port [] []
+    pub crossed : HasCrossed port host before tap [] []
 
   -- what an access of so many bytes that never waits does, by its answer: it has this reply where it is accepted
-  abbrev pub TriesAccess : PassState → P → Addr → Calls → ℕ → Reply → Result (Unit {0}) TryRefused → PassState → TapState P → Type 0
+  abbrev pub TriesAccess : PassState → TapState P → Addr → Calls → ℕ → Reply → Result (Unit {0}) TryRefused → PassState → TapState P → Type 0
   TriesAccess s before at op n good (Ok done) s' tap = HasAccessed s before at op good s' tap
   TriesAccess s before at op n good (Err (Access refused)) s' tap = HasAccessed s before at op (refusal_reply refused) s' tap
   TriesAccess s before at op n good (Err (Busy word)) s' tap = FoundBusy s before at n word s' tap

@@ -1,11 +1,11 @@
 -- One entry of a caller's call: where it stands, after what, and what stays of the pass.
-use Rattle.std.specs.Prelude.{◌≡◌, ◌<◌, [], ◌∷◌, length}
+use Rattle.std.specs.Prelude.{◌≡◌, ℕ, ◌<◌, [], ◌∷◌, length}
 use Rattle.eleos_base.specs.Plans.{IsCaller}
 use Rattle.eleos_core.specs.Legal.{CoreStep}
 use Rattle.eleos_core.specs.Parts.{Stamp}
 use Rattle.eleos_core.specs.State.{History}
 use Rattle.eleos_plot.specs.Terms.{core_terms}
-use Rattle.eleos_turn.specs.Hands.{Goes}
+use Rattle.eleos_turn.specs.Hands.{Goes, links_on}
 use Rattle.eleos_machine.specs.Machines.{Site, plan_at}
 use Rattle.eleos_machine.specs.Passes.{PassState, plan_of, seals_of, seen}
 
@@ -16,7 +16,7 @@ pub record CanCall (z : Site) (s : PassState) : Type 0 where
   pub no_turn : s.hand.turns ≡ []
   pub left : 0 < s.hand.left
 
--- the pass stamped this entry and no other one, at its place in the history that it has seen then; it has no turn, and its pins and its last refusal are as before
+-- the pass stamped this entry and no other one, at its place in the history that it has seen then; it has no turn, and its pins, its links and its last refusal are as before
 pub record Enters (s : PassState) (d : Stamp) (s' : PassState) : Type 0 where
   pub past : History
   pub goes : Goes core_terms s.hand s'.hand ((length past, d) ∷ [])
@@ -24,4 +24,7 @@ pub record Enters (s : PassState) (d : Stamp) (s' : PassState) : Type 0 where
   pub legal : CoreStep (plan_of s) (seals_of s) past d.entry
   pub no_turn : s'.hand.turns ≡ []
   pub pins : s'.hand.pins ≡ s.hand.pins
+  pub links : (c : ℕ) → links_on core_terms s'.hand c ≡ links_on core_terms s.hand c
   pub refused : s'.hand.refused ≡ s.hand.refused
+  -- all but the hand and the draft stays
+  pub rest : s' ≡ record s { hand = s'.hand; draft = s'.draft }

@@ -45,7 +45,7 @@ access_stamp s op blocks reply = stamp_of s.hand.number (Op op) blocks reply 0
 -- the access is the pass's one new entry, with the block that came for it; the host gave that block and took those that the entry seals, and nothing else
 pub record AccessesHeld {P : Type 0} (port : Ghosts P) (host : store.Ghosts P) (s : PassState) (tap : TapState P) (at : Addr) (op : Calls) (reply : Reply) (s' : PassState) (tap' : TapState P) : Type 0 where
   pub entered : Enters s (access_stamp s op (came tap') reply) s'
-  pub crossed : Crosses port host tap.port tap'.port (at_place (sub_of (plan_of s) at) (came tap')) (puts_of (plan_of s) (seals_of s) (access_stamp s op (came tap') reply).entry entered.past)
+  pub crossed : Crosses port host tap tap' (at_place (sub_of (plan_of s) at) (came tap')) (puts_of (plan_of s) (seals_of s) (access_stamp s op (came tap') reply).entry entered.past)
   pub spoiled : failed_block tap' ≡ spoiled_by reply (came tap')
 
 -- an access of so many bytes is out of range

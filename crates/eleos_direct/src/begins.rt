@@ -25,7 +25,7 @@ pub(crate) fn begin<S: Sealer, P: HostPort>(
     requires can { CanCall m.now pass.now }
     ensures found { MatchOption result (IsOutside (plan_at m.now) pass.now.hand.number at len)
         (λ cell. IsPageOf (plan_at m.now) pass.now.hand.number at len cell) }
-    ensures begun { HasBegun P.HostPort.own P.HostStore.own tap.old.port tap.new }
+    ensures begun { HasBegun P.HostPort.own P.HostStore.own tap.old tap.new }
 {
     tap.begin();
     let plan = m.plan();

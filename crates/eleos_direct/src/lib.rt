@@ -12,6 +12,3 @@ mod writes;
 pub use reads::{read, refuse_read, try_read};
 pub use refusals::TryRefused;
 pub use writes::{MOST_WRITTEN, try_write, write};
-
-#[cfg(test)]
-mod tests;

@@ -32,7 +32,7 @@ pub fn read<S: Sealer, P: HostPort, R: Wait>(
 ) -> Result<(), AccessRefused>
     requires can { CanCall m.now pass.old }
     requires buffer { length buf.old < 2 ^ 32 }
-    ensures accessed { HasAccessed P.HostPort.own P.HostStore.own pass.old tap.old.port at
+    ensures accessed { HasAccessed P.HostPort.own P.HostStore.own pass.old tap.old at
         (calls.Read at (length buf.old)) (read_reply result buf.new) pass.new tap.new }
     ensures refused { OnErr result (buf.new ≡ buf.old) }
 {
@@ -54,7 +54,7 @@ pub fn try_read<S: Sealer, P: HostPort>(
 ) -> Result<(), TryRefused>
     requires can { CanCall m.now pass.old }
     requires buffer { length buf.old < 2 ^ 32 }
-    ensures accessed { TriesAccess P.HostPort.own P.HostStore.own pass.old tap.old.port at
+    ensures accessed { TriesAccess P.HostPort.own P.HostStore.own pass.old tap.old at
         (calls.Read at (length buf.old)) (length buf.old) (replies.Text buf.new) result pass.new tap.new }
     ensures refused { OnErr result (buf.new ≡ buf.old) }
 {

@@ -34,7 +34,7 @@ pub fn write<S: Sealer, P: HostPort, R: Wait>(
 ) -> Result<(), AccessRefused>
     requires can { CanCall m.now pass.old }
     requires bytes { length bytes.now ≤ MOST_WRITTEN }
-    ensures { HasAccessed P.HostPort.own P.HostStore.own pass.old tap.old.port at
+    ensures { HasAccessed P.HostPort.own P.HostStore.own pass.old tap.old at
         (calls.Write at bytes.now) (write_reply result) pass.new tap.new }
 {
     let Some(cell) = begin(m, pass, tap, at, bytes.len()) else {
@@ -55,7 +55,7 @@ pub fn try_write<S: Sealer, P: HostPort>(
 ) -> Result<(), TryRefused>
     requires can { CanCall m.now pass.old }
     requires bytes { length bytes.now ≤ MOST_WRITTEN }
-    ensures { TriesAccess P.HostPort.own P.HostStore.own pass.old tap.old.port at
+    ensures { TriesAccess P.HostPort.own P.HostStore.own pass.old tap.old at
         (calls.Write at bytes.now) (length bytes.now) replies.Done result pass.new tap.new }
 {
     let Some(cell) = begin(m, pass, tap, at, bytes.len()) else {

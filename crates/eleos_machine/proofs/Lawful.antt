@@ -29,10 +29,10 @@ pub parts_are : (s : PassState) → IsLawful s → part_of core_terms s.hand ≡
 parts_are s law = λ i c. law.run.parts c i
 
 -- a take, in the machine's words
-pub took_turn : (c n : ℕ) (s s' : PassState) (x : Cell) → 0 < s.hand.number → IsLawful s → IsLawful s' → s'.draft ≡ s.draft → Took core_terms c n s.hand x s'.hand → TookTurn c n s x s'
-took_turn c n s s' x made law law' draft took = record {
+pub took_turn : (c n : ℕ) (s s' : PassState) (x : Cell) → 0 < s.hand.number → IsLawful s → IsLawful s' → s' ≡ record s { hand = s'.hand } → Took core_terms c n s.hand x s'.hand → TookTurn c n s x s'
+took_turn c n s s' x made law law' rest took = record {
   took = took;
-  draft = draft;
+  rest = rest;
   value = took.part ∙ law'.run.parts c;
   fits =
       let g : Ground = s'.hand.home.base.grounds in
@@ -78,8 +78,8 @@ can_stamp s law may =
     }
 
 -- a stamp, in the machine's words
-pub has_stamped : (s s' : PassState) (n : ℕ) → IsLawful s → IsLawful s' → MayStamp s → s'.draft ≡ s.draft → Stamped core_terms s.draft (kept_of s.hand s.draft) s.hand n s'.hand → HasStamped s n s'
-has_stamped s s' n law law' may draft stamped =
+pub has_stamped : (s s' : PassState) (n : ℕ) → IsLawful s → IsLawful s' → MayStamp s → s' ≡ record s { hand = s'.hand } → Stamped core_terms s.draft (kept_of s.hand s.draft) s.hand n s'.hand → HasStamped s n s'
+has_stamped s s' n law law' may rest stamped =
     let g : Ground = s.hand.home.base.grounds in
     let d : Stamp = s.draft in
     let f : ℕ → Part = part_of core_terms s.hand in
@@ -91,7 +91,7 @@ has_stamped s s' n law law' may draft stamped =
     let home : s'.hand.home ≡ s.hand.home = ap (λ (y : HandState Stamp Part Ground). y.home) stamped.now in
     let sees : seen s' ≡ d.entry ∷ past = ap (λ (y : HandState Stamp Part Ground). history_of y.seen) stamped.now ∙ history_last [] (s.hand.seen ++ stamped.more) e in
     record {
-      draft = draft;
+      rest = rest;
       stamped = subst (λ (f : ℕ → Part). Stamped core_terms d (kept_by g f d) s.hand n s'.hand) parts stamped;
       goes = goes_stamped core_terms d (kept_by g f d) s.hand s'.hand n (some_number s.hand law.hand may.left) can stamped;
       past = past;

@@ -8,6 +8,7 @@ use Rattle.eleos_core.specs.State.{History}
 use Rattle.eleos_plot.specs.declared.cell.Cell.{Cell}
 use Rattle.eleos_plot.specs.declared.plot.Ground.{Ground}
 use Rattle.eleos_plot.specs.Cells.{part_of_cell}
+use Rattle.eleos_plot.specs.Entries.{blank_stamp}
 use Rattle.eleos_plot.specs.Fits.{Fits}
 use Rattle.eleos_plot.specs.Histories.{IsMachineRun, history_of, part_after}
 use Rattle.eleos_plot.specs.Terms.{core_terms}
@@ -18,6 +19,10 @@ use Rattle.eleos_machine.specs.Machines.{IsMachine, plan_at, seals_at}
 pub record PassState : Type 0 where
   pub hand : HandState Stamp Part Ground
   pub draft : Stamp
+
+-- the pass of a hand that was just dealt
+abbrev pub new_pass : HandState Stamp Part Ground → PassState
+new_pass hand = record { hand = hand; draft = blank_stamp }
 
 -- the number of the last of these entries, each with its stamp, and 0 where there is none
 abbrev pub last_stamp : List (ℕ × Stamp) → ℕ
@@ -49,7 +54,8 @@ pub record IsLawful (s : PassState) : Type 0 where
 -- the turn of the cell c was taken, with the word n and the value x, and nothing was stamped
 pub record TookTurn (c n : ℕ) (s : PassState) (x : Cell) (s' : PassState) : Type 0 where
   pub took : Took core_terms c n s.hand x s'.hand
-  pub draft : s'.draft ≡ s.draft
+  -- all but the hand stays
+  pub rest : s' ≡ record s { hand = s'.hand }
   -- the value is what the history seen then made of the cell
   pub value : part_of_cell x ≡ part_seen s' c
   pub fits : Fits (plan_of s) (cell_of (plan_of s) c) x

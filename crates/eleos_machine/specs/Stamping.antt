@@ -34,7 +34,8 @@ pub record MayStamp (s : PassState) : Type 0 where
 
 -- the draft was stamped: it is the entry of the history at the place n, and the pass's only new one
 pub record HasStamped (s : PassState) (n : ℕ) (s' : PassState) : Type 0 where
-  pub draft : s'.draft ≡ s.draft
+  -- all but the hand stays
+  pub rest : s' ≡ record s { hand = s'.hand }
   pub stamped : Stamped core_terms s.draft (kept s) s.hand n s'.hand
   pub goes : Goes core_terms s.hand s'.hand ((n, s.draft) ∷ [])
   -- the entries before it, after which it is legal

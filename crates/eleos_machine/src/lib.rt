@@ -17,6 +17,3 @@ pub use judging::{PlanField, fault_of};
 pub use machine::Machine;
 pub use making::MakeRefused;
 pub use pass::{Pass, RestPass};
-
-#[cfg(test)]
-mod tests;

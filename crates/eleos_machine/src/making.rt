@@ -1,5 +1,5 @@
 // A machine is made of a plan, with its passes.
-ghost use Rattle.std.specs.Prelude.{vec_capacity, ◌≡◌, ◌↔◌, ◌≤◌, [], Some, Err, IfOk};
+ghost use Rattle.std.specs.Prelude.{vec_capacity, ◌≡◌, ◌↔◌, ◌≤◌, [], Some, Err, IfOk, map};
 ghost use Rattle.eleos_plot.specs.Terms.{core_terms};
 ghost use Rattle.eleos_turn.specs.Hands.{dealt, entries};
 ghost use Rattle.eleos_machine.specs.declared.judging.PlanField.{PlanField as Fields};
@@ -7,7 +7,7 @@ ghost use Rattle.eleos_machine.specs.declared.making.MakeRefused.TheVariants as 
 ghost use Rattle.eleos_machine.specs.Closing.{hands_of};
 ghost use Rattle.eleos_machine.specs.Judging.{CanBeMade, plan_fault};
 ghost use Rattle.eleos_machine.specs.Machines.{IsMachine, all_passes, plan_at};
-ghost use Rattle.eleos_machine.specs.Passes.{last_stamp};
+ghost use Rattle.eleos_machine.specs.Passes.{last_stamp, new_pass};
 
 use crate::cells::opening_cells;
 use crate::judging::{PlanField, fault_of};
@@ -49,6 +49,7 @@ impl<S: Sealer + Drop> Machine<S> {
         ensures key { IfOk result (λ r. r.0.base.grounds.key ≡ S.key sealer) }
         ensures machine { IfOk result (λ r. IsMachine r.0) }
         ensures passes { IfOk result (λ r. hands_of r.1.items ≡ dealt r.0 0 (all_passes plan.now)) }
+        ensures new { IfOk result (λ r. r.1.items ≡ map new_pass (hands_of r.1.items)) }
     {
         if let Some(field) = fault_of(plan) {
             return Err(MakeRefused::BadPlan { field });
@@ -68,6 +69,7 @@ fn make_good<S: Sealer + Drop>(
     ensures key { IfOk result (λ r. r.0.base.grounds.key ≡ S.key sealer) }
     ensures machine { IfOk result (λ r. IsMachine r.0) }
     ensures passes { IfOk result (λ r. hands_of r.1.items ≡ dealt r.0 0 (all_passes plan.now)) }
+    ensures new { IfOk result (λ r. r.1.items ≡ map new_pass (hands_of r.1.items)) }
 {
     let count = plan.callers.len() as u32 + 2;
     let cells = opening_cells(alloc, plan)?;
@@ -92,7 +94,8 @@ fn passes_of(
     requires machine { IsMachine _turnstile.now }
     requires count { count ≡ all_passes (plan_at _turnstile.now) }
     requires dealt { hands.items ≡ dealt _turnstile.now 0 count }
-    ensures { IfOk result (λ passes. hands_of passes.items ≡ hands.items) }
+    ensures passes { IfOk result (λ passes. hands_of passes.items ≡ hands.items) }
+    ensures new { IfOk result (λ passes. passes.items ≡ map new_pass (hands_of passes.items)) }
 {
     let mut passes = Vec::with_capacity(alloc, hands.len())?;
     for hand in hands {

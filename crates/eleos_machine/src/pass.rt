@@ -91,7 +91,9 @@ impl Pass {
     /// Puts the pass to rest.
     pub fn rest(self) -> RestPass
         requires { self.hand.turns ≡ [] }
-        ensures { result ≡ self }
+        ensures same { result ≡ self }
+        ensures idle { result.hand.turns ≡ [] }
+        ensures lawful { IsLawful result }
     {
         let Pass {
             hand,
@@ -109,9 +111,11 @@ impl Pass {
 }
 
 impl RestPass {
-    /// The pass again.
+    /// The pass again, which has no turn.
     pub fn wake(self) -> Pass
-        ensures { result ≡ self }
+        ensures same { result ≡ self }
+        ensures idle { result.hand.turns ≡ [] }
+        ensures lawful { IsLawful result }
     {
         let RestPass {
             hand,

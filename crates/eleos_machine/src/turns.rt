@@ -3,9 +3,9 @@ ghost use Rattle.std.specs.Prelude.{◌≡◌, ◌<◌, ◌≤◌, length, IfOk,
 ghost use Rattle.eleos_base.specs.Ties.{Has};
 ghost use Rattle.eleos_plot.specs.Cells.{part_of_cell};
 ghost use Rattle.eleos_plot.specs.Terms.{core_terms};
-ghost use Rattle.eleos_turn.specs.Hands.{links_on, refused_at, with_pin, without_pin};
+ghost use Rattle.eleos_turn.specs.Hands.{links_on, looked_at, refused_at, with_pin, without_pin};
 ghost use Rattle.eleos_turn.specs.Numbers.{most_pins, times};
-ghost use Rattle.eleos_turn.specs.Words.{IsBusy, IsFree, IsPlain, pins_in};
+ghost use Rattle.eleos_base.specs.Words.{IsBusy, IsFree, IsPlain, pins_in};
 ghost use Rattle.eleos_machine.specs.Machines.{all_cells, plan_at};
 ghost use Rattle.eleos_machine.specs.Passes.{IsLawful, TookTurn, gave, part_seen};
 ghost use Rattle.eleos_machine.specs.Stamping.{HasStamped, MayStamp};
@@ -27,6 +27,7 @@ impl<S: Sealer> Machine<S> {
         requires made { 0 < pass.old.hand.number }
         ensures word { IsFree result.word }
         ensures plain { IsPlain result.word }
+        ensures pins { times cell pass.old.hand.pins ≤ pins_in result.word }
         ensures took { TookTurn cell result.word pass.old result.value pass.new }
         ensures lawful { IsLawful pass.new }
     {
@@ -43,6 +44,9 @@ impl<S: Sealer> Machine<S> {
         requires made { 0 < pass.old.hand.number }
         ensures word { MatchResult result (λ t. IsFree t.word) (λ b. IsBusy b.word) }
         ensures plain { MatchResult result (λ t. IsPlain t.word) (λ b. IsPlain b.word) }
+        ensures pins { MatchResult result
+            (λ t. times cell pass.old.hand.pins ≤ pins_in t.word)
+            (λ b. times cell pass.old.hand.pins ≤ pins_in b.word) }
         ensures took { IfOk result (λ t. TookTurn cell t.word pass.old t.value pass.new) }
         ensures refused { IfErr result (λ b. pass.new
             ≡ record pass.old { hand = refused_at pass.old.hand cell b.word }) }
@@ -97,8 +101,7 @@ impl<S: Sealer> Machine<S> {
     pub fn look(&self, pass: &mut Pass, cell: u32) -> u64
         requires own { pass.old.hand.home ≡ self.now }
         requires cell { cell < all_cells (plan_at self.now) }
-        ensures noted { pass.new
-            ≡ record pass.old { hand = record pass.old.hand { looked = (cell, result) } } }
+        ensures noted { pass.new ≡ record pass.old { hand = looked_at pass.old.hand cell result } }
         ensures busy { Has cell pass.old.hand.turns → IsBusy result }
         ensures pins { times cell pass.old.hand.pins ≤ pins_in result }
         ensures clean { Has cell pass.old.hand.clean → pins_in result ≡ times cell pass.old.hand.pins }

@@ -14,6 +14,3 @@ pub use cell::Cell;
 pub use draft::{BLOCK_BYTES, Draft, MOST_BLOCKS, MOST_LOOKED, MOST_TEXT, MOST_WRITTEN};
 pub use plot::{CellPart, CorePlot, Ground};
 pub use refs::{EventRef, OpRef, ReplyRef, WantedRef};
-
-#[cfg(test)]
-mod tests;

@@ -7,6 +7,6 @@ use Rattle.eleos_machine.proofs.making.passes_of.Goals as goal
 pub invariant_of-push : goal.invariant_of-push
 invariant_of-push c =
     let z = c.args._turnstile.now in
-    let rest = c.loop-hand.invariant.1 ∙ ap (λ xs. c.loop-hand.yielded ++ xs) c.in-Some.ensures.steps.0 in
+    let rest = c.loop-hand.invariant.2 ∙ ap (λ xs. c.loop-hand.yielded ++ xs) c.in-Some.ensures.steps.0 in
     let new = one_of (IsNew z) c.args.hands.items c.loop-hand.yielded c.in-Some.hand c.next.new.self.rest.items rest (subst (AllByRecursion (IsNew z)) (sym c.requires.dealt) (all_new z 0 c.args.count)) in
     new_fields z c.in-Some.hand (c.in_ok-with_capacity.field-0.items ≡ []) (vec_capacity c.in_ok-with_capacity.field-0) c.args.count new c.requires.machine c.in_ok-with_capacity.ensures.items c.requires.count c.in_ok-with_capacity.ensures.exact

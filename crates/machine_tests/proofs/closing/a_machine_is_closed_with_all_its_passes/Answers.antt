@@ -1,6 +1,6 @@
 use Rattle.std.proofs.Common.{◌+◌, ◌∙◌, ap}
 use Rattle.eleos_turn.specs.Hands.{dealt}
-use Rattle.eleos_machine.proofs.tests.a_caller_stamps_a_refused_alloc.Goals as goal
+use Rattle.machine_tests.proofs.closing.a_machine_is_closed_with_all_its_passes.Goals as goal
 
 -- a pass for the caller, for the swapper and for the balloon
 pub three_passes-requires : goal.three_passes-requires

@@ -1,25 +1,22 @@
-ghost use Rattle.std.specs.Prelude.{◌≡◌, ◌<◌, length, IfOk, IfSome};
-ghost use Rattle.eleos_base.specs.Plans.{IsCaller};
+// Plans of which no machine can be made, and the end of a machine.
+ghost use Rattle.std.specs.Prelude.{◌≡◌, length, IfOk, IfSome};
 ghost use Rattle.eleos_turn.specs.Hands.{dealt, fresh};
 ghost use Rattle.eleos_machine.specs.Closing.{hands_of};
-ghost use Rattle.eleos_machine.specs.Machines.{plan_at};
 
-use crate::{CloseRefused, CloseWhy, Machine, Pass, PlanField, RestPass, fault_of};
 use eleos_base::{BlockPlan, EnclavePlan, List, Plan, Sealer};
 use eleos_gcm::Gcm;
-use eleos_plot::{EventRef, OpRef, ReplyRef};
+use eleos_machine::{CloseRefused, CloseWhy, Machine, Pass, PlanField, RestPass, fault_of};
 use std::alloc::{AllocError, Global};
 use std::process::Abort;
 use std::test::*;
 
-// A plan whose enclaves have so many pages and one frame each.
+// A plan whose enclaves have so many pages and one frame each, with one frame to spare.
 fn plan_of(
     alloc: Global,
     pages: &[u32],
-    spare: u32,
     callers: &[u16],
     wear: u64,
-    blocks: &[BlockPlan],
+    blocks: &[(u32, u32)],
 ) -> Result<Plan, AllocError>
     ensures { IfOk result (λ plan. length plan.callers ≡ length callers.now) }
 {
@@ -30,49 +27,54 @@ fn plan_of(
             frames: 1,
         })?;
     }
+    let mut plans = Vec::new(alloc);
+    for (bytes, owner) in blocks {
+        plans.push(BlockPlan {
+            enclave: 0,
+            bytes: *bytes,
+            owner: *owner,
+        })?;
+    }
     Ok(Plan {
         enclaves: List::of(enclaves),
-        spare,
+        spare: 1,
         callers: List::of(Vec::from_slice(alloc, callers)?),
         wear,
-        blocks: List::of(Vec::from_slice(alloc, blocks)?),
+        blocks: List::of(plans),
     })
 }
 
-fn block(bytes: u32, owner: u32) -> BlockPlan {
-    BlockPlan {
-        enclave: 0,
-        bytes,
-        owner,
-    }
-}
-
-// The fault of a plan, as it is wanted.
-fn is_fault(plan: Result<Plan, AllocError>, wanted: Option<PlanField>) -> bool {
-    let Ok(plan) = plan else {
-        return false;
-    };
-    fault_of(&plan) == wanted
-}
+// Pages of each enclave, callers, wear, and bytes and owner of each block of a plan, and its first bad field.
+const PLANS: [(&[u32], &[u16], u64, &[(u32, u32)], Option<PlanField>); 8] = [
+    (&[1, 2], &[0, 1], 9, &[(4096, 1)], None),
+    (&[], &[], 0, &[], Some(PlanField::Enclaves)),
+    (&[1, 1025], &[0], 0, &[], Some(PlanField::Pages)),
+    (&[1], &[1], 0, &[], Some(PlanField::Callers)),
+    (&[1], &[0; 9], 9, &[], Some(PlanField::Callers)),
+    (&[1], &[0], 0, &[(0, 1)], Some(PlanField::Wear)),
+    (
+        &[1],
+        &[0],
+        9,
+        &[(3072, 0), (1025, 1)],
+        Some(PlanField::Blocks),
+    ),
+    (&[1], &[0], 9, &[(1, 2)], Some(PlanField::Blocks)),
+];
 
 #[test]
 fn the_first_bad_field_is_named(rt: HostRuntime) -> Result<(), Fail> {
-    let alloc = rt.alloc();
-    let good = plan_of(alloc, &[1, 2], 1, &[0, 1], 9, &[block(4096, 1)]);
-    assert!(rt; is_fault(good, None));
-    let pages = plan_of(alloc, &[1, 1025], 1, &[0], 0, &[]);
-    assert!(rt; is_fault(pages, Some(PlanField::Pages)));
-    let wear = plan_of(alloc, &[1], 1, &[0], 0, &[block(0, 1)]);
-    assert!(rt; is_fault(wear, Some(PlanField::Wear)));
-    let room = plan_of(alloc, &[1], 1, &[0], 9, &[block(3072, 0), block(1025, 1)]);
-    assert!(rt; is_fault(room, Some(PlanField::Blocks)));
+    for (pages, callers, wear, blocks, fault) in PLANS {
+        let plan = plan_of(rt.alloc(), pages, callers, wear, blocks)?;
+        assert_eq!(rt; fault_of(&plan), fault);
+    }
     Ok(())
 }
 
 #[test]
-fn a_caller_stamps_a_refused_alloc(rt: HostRuntime) -> Result<(), Fail> {
+fn a_machine_is_closed_with_all_its_passes(rt: HostRuntime) -> Result<(), Fail> {
     let alloc = rt.alloc();
-    let plan = plan_of(alloc, &[1], 1, &[0], 9, &[])?;
+    let plan = plan_of(alloc, &[1], &[0], 9, &[])?;
     let Ok(sealer) = Gcm::new(&[7; 16]) else {
         return Err("key".into());
     };
@@ -83,7 +85,7 @@ fn a_caller_stamps_a_refused_alloc(rt: HostRuntime) -> Result<(), Fail> {
     let Some((caller, swapper, balloon)) = three_passes(&machine, passes) else {
         return Err("passes".into());
     };
-    stamp_and_close(&rt, alloc, machine, caller, swapper, balloon)
+    close_in_turn(&rt, alloc, machine, caller, swapper, balloon)
 }
 
 // Threads may share a machine, and each may be given a pass.
@@ -109,37 +111,6 @@ fn three_passes(machine: &Machine<Gcm>, passes: Vec<Pass>) -> Option<(Pass, Pass
     let swapper = passes.pop()?;
     let caller = passes.pop()?;
     Some((caller, swapper, balloon))
-}
-
-// Stamps an alloc of no bytes, which is refused by its size and touches no cell.
-fn stamp_refused(machine: &Machine<Gcm>, pass: &mut Pass) -> u64
-    requires own { pass.old.hand.home ≡ machine.now }
-    requires caller { IsCaller (plan_at machine.now) pass.old.hand.number }
-    requires left { 0 < pass.old.hand.left }
-    ensures own { pass.new.hand.home ≡ machine.now }
-    ensures turns { pass.new.hand.turns ≡ pass.old.hand.turns }
-    ensures number { pass.new.hand.number ≡ pass.old.hand.number }
-{
-    pass.set(EventRef::Op(OpRef::Alloc { bytes: 0 }), ReplyRef::BadSize);
-    machine.stamp(pass)
-}
-
-fn stamp_and_close<R: Abort>(
-    rt: &R,
-    alloc: Global,
-    machine: Machine<Gcm>,
-    caller: Pass,
-    swapper: Pass,
-    balloon: Pass,
-) -> Result<(), Fail>
-    requires caller { (caller.hand ≡ fresh machine 1) × IsCaller (plan_at machine) 1 }
-    requires left { 0 < machine.base.each }
-    requires swapper { swapper.hand.home ≡ machine }
-    requires balloon { balloon.hand.home ≡ machine }
-{
-    let mut caller = caller;
-    assert_eq!(rt; stamp_refused(&machine, &mut caller), 0);
-    close_in_turn(rt, alloc, machine, caller, swapper, balloon)
 }
 
 // Closes with one pass, and then with all.
