@@ -1,16 +1,16 @@
 -- What the loop over lines knows at each line.
 use Rattle.std.proofs.Common.{◌≡◌, ℕ, ◌+◌, List, [], ◌∷◌, ◌++◌, Result, Ok, Err, false, true, sym, ◌∙◌}
 use Rattle.std.specs.List.{slice_split}
-use Rattle.eleos_trace.specs.declared.why.Why.{Why}
-use Rattle.eleos_trace.specs.declared.why.Why.TheVariants.{Cut}
-use Rattle.eleos_trace.specs.declared.why.Bad.{Bad}
-use Rattle.eleos_trace.specs.declared.why.TraceRefused.{TraceRefused}
-use Rattle.eleos_trace.specs.declared.why.TraceRefused.TheVariants as refused
-use Rattle.eleos_trace.specs.declared.why.LineRefused.{LineRefused}
-use Rattle.eleos_trace.specs.declared.why.LineRefused.TheVariants as line_refused
-use Rattle.eleos_trace.specs.Fields.{is_blank, is_newline}
-use Rattle.eleos_trace.specs.Reasons.{Fails, Reads, answer_at}
-use Rattle.eleos_trace.specs.Reading.{ended}
+use Rattle.eleos_texts.specs.declared.why.Why.{Why}
+use Rattle.eleos_texts.specs.declared.why.Why.TheVariants.{Cut}
+use Rattle.eleos_texts.specs.declared.why.Bad.{Bad}
+use Rattle.eleos_texts.specs.declared.why.TraceRefused.{TraceRefused}
+use Rattle.eleos_texts.specs.declared.why.TraceRefused.TheVariants as refused
+use Rattle.eleos_texts.specs.declared.why.LineRefused.{LineRefused}
+use Rattle.eleos_texts.specs.declared.why.LineRefused.TheVariants as line_refused
+use Rattle.eleos_texts.specs.Fields.{is_blank, is_newline}
+use Rattle.eleos_texts.specs.Reasons.{Fails, Reads, answer_at}
+use Rattle.eleos_texts.specs.Texts.{ended}
 use Rattle.eleos_trace.specs.declared.trace.Kind.{Kind}
 use Rattle.eleos_report.specs.declared.line.LogLine.{LogLine}
 use Rattle.eleos_report.specs.Log.{is_last}
@@ -33,7 +33,7 @@ module _ (kind : Kind) (number : ℕ) (front : List LogLine) (rest : List ℕ) (
 
   module _ (text after : List ℕ) (parts : slice_split is_newline rest ≡ text ∷ slice_split is_newline after) where
     -- the last line, and nothing behind it
-    pub at_end : (line : LogLine) → is_last line ≡ true → line_of kind (slice_split is_blank text) ≡ Ok line → ended (number + 1) (slice_split is_newline after) ≡ Ok [] → whole ≡ Ok (front ++ line ∷ [])
+    pub at_end : (line : LogLine) → is_last line ≡ true → line_of kind (slice_split is_blank text) ≡ Ok line → ended (number + 1) (slice_split is_newline after) ≡ Ok tt → whole ≡ Ok (front ++ line ∷ [])
     at_end line last is none = sym (rw (parts, lines_of-last kind number text after line last is, none) at so_far)
 
     -- the last line, and something behind it

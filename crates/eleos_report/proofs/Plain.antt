@@ -19,8 +19,9 @@ use Rattle.eleos_trace.specs.declared.word.Actor.{Actor}
 use Rattle.eleos_trace.specs.declared.word.Actor.TheVariants.{Caller, Swapper, Balloon, Host}
 use Rattle.eleos_trace.specs.declared.word.Word.{Word}
 use Rattle.eleos_trace.specs.declared.word.Word.TheVariants.{Alloc, Free, Share, Read, Write, Tie, Untie, Fill, Evict, Move, Flip, SwapPlaces, Keep, Restore}
-use Rattle.eleos_trace.specs.Fields.{is_blank, is_newline, is_name, is_name_char}
-use Rattle.eleos_trace.specs.Spelling.{hex_text, fields, actor_text, owner_text}
+use Rattle.eleos_texts.specs.Fields.{is_blank, is_newline, is_name, is_name_char}
+use Rattle.eleos_texts.specs.Texts.{hex_text}
+use Rattle.eleos_trace.specs.Spelling.{fields, actor_text, owner_text}
 use Rattle.eleos_report.specs.declared.answer.Answer.{Answer}
 use Rattle.eleos_report.specs.declared.answer.Answer.TheVariants.{At, Okay, Got, Put, BadSize, NoSpace, NotABlock, NotYours, BadRange, Unallocated, Worn, Tampered, NoFrame, Illegal, Nothing, Skipped}
 use Rattle.eleos_base.specs.declared.memory.Part.{Part}

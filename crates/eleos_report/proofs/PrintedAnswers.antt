@@ -5,7 +5,7 @@ use Rattle.std.specs.List.{AllByRecursion}
 use Rattle.eleos_base.specs.declared.memory.Looked.{Looked}
 use Rattle.eleos_base.specs.declared.memory.Part.{Part}
 use Rattle.eleos_base.specs.declared.memory.Part.TheVariants.{Present, Frame, Absent, Linked, Owner, Untied}
-use Rattle.eleos_trace.specs.Reasons.{one, one_and_more}
+use Rattle.eleos_texts.specs.Reasons.{one, one_and_more}
 use Rattle.eleos_trace.specs.declared.trace.Kind.{Kind}
 use Rattle.eleos_report.specs.declared.answer.Answer.{Answer}
 use Rattle.eleos_report.specs.declared.answer.Answer.TheVariants.{At, Okay, Got, Put, BadSize, NoSpace, NotABlock, NotYours, BadRange, Unallocated, Worn, Tampered, NoFrame, Illegal, Nothing, Skipped}

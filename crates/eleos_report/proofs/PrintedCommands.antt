@@ -3,7 +3,7 @@ use Rattle.std.proofs.Common.{◌≡◌, ℕ, List, [], ◌∷◌, Ok, true, ref
 use Rattle.std.specs.Fmt.{decimal}
 use Rattle.eleos_trace.specs.declared.word.Word.{Word}
 use Rattle.eleos_trace.specs.declared.word.Word.TheVariants.{Alloc, Free, Share, Read, Write, Tie, Untie, Fill, Evict, Move, Flip, SwapPlaces, Keep, Restore}
-use Rattle.eleos_trace.specs.Reasons.{one, two, three, one_and_more}
+use Rattle.eleos_texts.specs.Reasons.{one, two, three, one_and_more}
 use Rattle.eleos_trace.specs.Spelling.{fields}
 use Rattle.eleos_trace.specs.declared.trace.Kind.{Kind}
 use Rattle.eleos_report.specs.Commands.{name_alone, name_and_number, number_alone, two_numbers, command_in, is_command}

@@ -13,10 +13,11 @@ use Rattle.hex.proofs.HexLemmas.{decode_of-encode_lower, length-encode_with}
 use Rattle.eleos_base.specs.declared.memory.Looked.{Looked}
 use Rattle.eleos_trace.specs.declared.word.Actor.{Actor}
 use Rattle.eleos_trace.specs.declared.word.Actor.TheVariants.{Caller, Swapper, Balloon, Host}
-use Rattle.eleos_trace.specs.Fields.{is, is_numeral, number, most_u32, hex_bytes}
+use Rattle.eleos_texts.specs.Fields.{is, is_numeral, number, most_u32, hex_bytes}
 use Rattle.eleos_trace.specs.Actors.{actor_of}
-use Rattle.eleos_trace.specs.Reasons.{two}
-use Rattle.eleos_trace.specs.Spelling.{hex_text, actor_text, owner_text}
+use Rattle.eleos_texts.specs.Reasons.{two}
+use Rattle.eleos_texts.specs.Texts.{hex_text}
+use Rattle.eleos_trace.specs.Spelling.{actor_text, owner_text}
 use Rattle.eleos_report.specs.Fields.{most_u64, number_of, name_of, bytes_of, block_of, optional_of, who_of, is_colon, looked_of}
 use Rattle.eleos_report.specs.Grammar.{IsShort, IsLong, IsName, IsWho, IsLooked, IsBlock}
 use Rattle.eleos_report.specs.Log.{looked_text, stamp_text}

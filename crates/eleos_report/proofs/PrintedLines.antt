@@ -8,8 +8,8 @@ use Rattle.std.proofs.lemmas.Str.Ascii.{IsAscii-push}
 use Rattle.std.proofs.lemmas.Bool.Decides.{nat_tests}
 use Rattle.eleos_trace.specs.declared.word.Actor.{Actor}
 use Rattle.eleos_trace.specs.declared.word.Word.{Word}
-use Rattle.eleos_trace.specs.Fields.{is, is_blank, is_newline}
-use Rattle.eleos_trace.specs.Reasons.{one, one_and_more}
+use Rattle.eleos_texts.specs.Fields.{is, is_blank, is_newline}
+use Rattle.eleos_texts.specs.Reasons.{one, one_and_more}
 use Rattle.eleos_trace.specs.Spelling.{fields, actor_text}
 use Rattle.eleos_trace.specs.declared.trace.Kind.{Kind}
 use Rattle.eleos_report.specs.declared.answer.Answer.{Answer}

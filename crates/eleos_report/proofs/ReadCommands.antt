@@ -1,11 +1,11 @@
 -- What the readers of commands give.
 use Rattle.std.proofs.Common.{◌≡◌, ℕ, List, Option, Ok, Err, true, codes}
 use Rattle.std.specs.Prelude.{IfOk, IfSome}
-use Rattle.eleos_trace.specs.declared.why.Why.TheVariants.{Form}
+use Rattle.eleos_texts.specs.declared.why.Why.TheVariants.{Form}
 use Rattle.eleos_trace.specs.declared.word.Word.{Word}
 use Rattle.eleos_trace.specs.declared.word.Word.TheVariants.{Alloc, Free, Share, Tie, Untie, Fill, Evict, Move, Flip, SwapPlaces, Keep, Restore}
-use Rattle.eleos_trace.specs.Fields.{is, most_u32}
-use Rattle.eleos_trace.specs.Reasons.{one, two, three, one_and_more, with_one_and_more}
+use Rattle.eleos_texts.specs.Fields.{is, most_u32}
+use Rattle.eleos_texts.specs.Reasons.{one, two, three, one_and_more, with_one_and_more}
 use Rattle.eleos_trace.specs.declared.trace.Kind.{Kind}
 use Rattle.eleos_report.specs.Fields.{number_of, name_of, bytes_of, optional_of}
 use Rattle.eleos_report.specs.Commands.{is_command, is_move, name_alone, name_and_number, number_alone, two_numbers, read_of, write_of, move_of, host_command_of, frame_command_of, command_of, command_in}

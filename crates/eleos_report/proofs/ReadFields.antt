@@ -9,9 +9,9 @@ use Rattle.hex.proofs.HexLemmas.{decode_of-ok}
 use Rattle.hex.specs.declared.error.FromHexError.{FromHexError}
 use Rattle.eleos_trace.specs.declared.word.Actor.{Actor}
 use Rattle.eleos_trace.specs.declared.word.Actor.TheVariants.{Caller, Swapper, Balloon, Host}
-use Rattle.eleos_trace.specs.Fields.{is, is_numeral, number, is_up_to, most_u32, is_name, hex_bytes, decoded}
+use Rattle.eleos_texts.specs.Fields.{is, is_numeral, number, is_up_to, most_u32, is_name, hex_bytes, decoded}
 use Rattle.eleos_trace.specs.Actors.{actor_of, is_caller_word}
-use Rattle.eleos_trace.specs.Reasons.{two, ◌>>=◌}
+use Rattle.eleos_texts.specs.Reasons.{two, ◌>>=◌}
 use Rattle.eleos_report.specs.Fields.{most_u64, block_bytes, formed, found, number_of, name_of, bytes_of, block_of, optional_of, who_of, is_colon, looked_of}
 use Rattle.eleos_report.specs.Grammar.{IsShort, IsLong, IsName, IsWho, IsLooked, IsBlock}
 use Rattle.eleos_report.proofs.Plain.{and_first, and_second}

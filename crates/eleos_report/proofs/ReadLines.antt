@@ -2,11 +2,11 @@
 use Rattle.std.proofs.Common.{◌≡◌, ℕ, ◌+◌, List, [], ◌∷◌, length, Option, Result, Ok, Err, Bool, true, false, cond, nat_le, refl, codes}
 use Rattle.std.specs.Prelude.{IfOk, IfSome}
 use Rattle.std.specs.List.{slice_split}
-use Rattle.eleos_trace.specs.declared.why.Why.{Why}
-use Rattle.eleos_trace.specs.declared.why.Why.TheVariants.{TooLarge}
-use Rattle.eleos_trace.specs.Fields.{is, is_blank, is_newline}
-use Rattle.eleos_trace.specs.Reasons.{at_line, one, one_and_more, ◌>>=◌}
-use Rattle.eleos_trace.specs.Reading.{ended, most_text}
+use Rattle.eleos_texts.specs.declared.why.Why.{Why}
+use Rattle.eleos_texts.specs.declared.why.Why.TheVariants.{TooLarge}
+use Rattle.eleos_texts.specs.Fields.{is, is_blank, is_newline}
+use Rattle.eleos_texts.specs.Reasons.{at_line, one, one_and_more, ◌>>=◌}
+use Rattle.eleos_texts.specs.Texts.{ended, most_text}
 use Rattle.eleos_trace.specs.declared.trace.Kind.{Kind}
 use Rattle.eleos_report.specs.declared.line.LogLine.{LogLine}
 use Rattle.eleos_report.specs.declared.line.LogLine.TheVariants.{End}

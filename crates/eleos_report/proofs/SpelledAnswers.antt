@@ -6,11 +6,11 @@ use Rattle.std.proofs.lemmas.Bool.Decides.{nat_tests}
 use Rattle.eleos_base.specs.declared.memory.Looked.{Looked}
 use Rattle.eleos_base.specs.declared.memory.Part.{Part as Offence}
 use Rattle.eleos_base.specs.declared.memory.Part.TheVariants.{Present, Frame, Absent, Linked, Owner, Untied}
-use Rattle.eleos_trace.specs.declared.why.Why.TheVariants.{Form}
+use Rattle.eleos_texts.specs.declared.why.Why.TheVariants.{Form}
 use Rattle.eleos_trace.specs.declared.trace.Kind.{Kind}
-use Rattle.eleos_trace.specs.Fields.{is, most_u32}
-use Rattle.eleos_trace.specs.Reasons.{one, one_and_more, with_one, with_one_and_more}
-use Rattle.eleos_trace.specs.Spelling.{hex_text}
+use Rattle.eleos_texts.specs.Fields.{is, most_u32}
+use Rattle.eleos_texts.specs.Reasons.{one, one_and_more, with_one, with_one_and_more}
+use Rattle.eleos_texts.specs.Texts.{hex_text}
 use Rattle.eleos_report.specs.declared.answer.Answer.{Answer}
 use Rattle.eleos_report.specs.declared.answer.Answer.TheVariants.{At, Okay, Got, Put, BadSize, NoSpace, NotABlock, NotYours, BadRange, Unallocated, Worn, NoFrame, Illegal, Nothing, Skipped}
 use Rattle.eleos_report.specs.Fields.{formed, number_of, bytes_of, block_of, looked_of}

@@ -2,14 +2,15 @@
 use Rattle.std.proofs.Common.{◌≡◌, ℕ, List, [], ◌∷◌, map, Result, Ok, Err, true, refl, sym, ap, ◌∙◌, codes}
 use Rattle.std.specs.Prelude.{IfOk}
 use Rattle.std.specs.Fmt.{decimal}
-use Rattle.eleos_trace.specs.declared.why.Why.{Why}
-use Rattle.eleos_trace.specs.declared.why.Why.TheVariants.{Form}
+use Rattle.eleos_texts.specs.declared.why.Why.{Why}
+use Rattle.eleos_texts.specs.declared.why.Why.TheVariants.{Form}
 use Rattle.eleos_trace.specs.declared.word.Word.{Word}
 use Rattle.eleos_trace.specs.declared.word.Word.TheVariants.{Alloc, Free, Share, Tie, Untie, Fill, Evict, Move, Flip, SwapPlaces, Keep, Restore}
 use Rattle.eleos_trace.specs.declared.trace.Kind.{Kind}
-use Rattle.eleos_trace.specs.Fields.{is, most_u32}
-use Rattle.eleos_trace.specs.Reasons.{one, two, three, one_and_more, with_one_and_more, ◌>>=◌}
-use Rattle.eleos_trace.specs.Spelling.{hex_text, fields, owner_text}
+use Rattle.eleos_texts.specs.Fields.{is, most_u32}
+use Rattle.eleos_texts.specs.Reasons.{one, two, three, one_and_more, with_one_and_more, ◌>>=◌}
+use Rattle.eleos_texts.specs.Texts.{hex_text}
+use Rattle.eleos_trace.specs.Spelling.{fields, owner_text}
 use Rattle.eleos_report.specs.Fields.{formed, number_of, name_of, bytes_of, optional_of}
 use Rattle.eleos_report.specs.Commands.{is_command, is_move, name_alone, name_and_number, number_alone, two_numbers, read_of, write_of, move_of, host_command_of, frame_command_of, command_of, command_in}
 use Rattle.eleos_report.proofs.ReadFields.{step, tested}

@@ -15,10 +15,11 @@ use Rattle.hex.specs.Hex.{decode_of, encode_lower, encode_with}
 use Rattle.hex.specs.declared.error.FromHexError.{FromHexError}
 use Rattle.eleos_trace.specs.declared.word.Actor.{Actor}
 use Rattle.eleos_trace.specs.declared.word.Actor.TheVariants.{Caller, Swapper, Balloon, Host}
-use Rattle.eleos_trace.specs.Fields.{is, is_numeral, number, is_up_to, most_u32, is_name, is_name_char, hex_bytes, decoded}
+use Rattle.eleos_texts.specs.Fields.{is, is_numeral, number, is_up_to, most_u32, is_name, is_name_char, hex_bytes, decoded}
 use Rattle.eleos_trace.specs.Actors.{actor_of, is_caller_word}
-use Rattle.eleos_trace.specs.Reasons.{one, two, three, one_and_more}
-use Rattle.eleos_trace.specs.Spelling.{hex_text, actor_text, owner_text}
+use Rattle.eleos_texts.specs.Reasons.{one, two, three, one_and_more}
+use Rattle.eleos_texts.specs.Texts.{hex_text}
+use Rattle.eleos_trace.specs.Spelling.{actor_text, owner_text}
 use Rattle.eleos_report.specs.Fields.{most_u64, block_bytes, formed, found, number_of, name_of, bytes_of, block_of, optional_of, who_of, is_colon, looked_of}
 use Rattle.eleos_report.specs.Log.{looked_text, stamp_text}
 use Rattle.std.proofs.lemmas.List.{map-append}

@@ -5,11 +5,11 @@ use Rattle.std.specs.List.{slice_split, join_with_byte, list_any, position_or_le
 use Rattle.std.specs.Fmt.{decimal}
 use Rattle.std.proofs.lemmas.List.{map-append}
 use Rattle.std.proofs.lemmas.List.Splits.{join_with_byte-slice_split}
-use Rattle.eleos_trace.specs.declared.why.Why.TheVariants.{TooLarge}
+use Rattle.eleos_texts.specs.declared.why.Why.TheVariants.{TooLarge}
 use Rattle.eleos_trace.specs.declared.trace.Kind.{Kind}
-use Rattle.eleos_trace.specs.Fields.{is, is_blank, is_newline}
-use Rattle.eleos_trace.specs.Reasons.{at_line, one, one_and_more}
-use Rattle.eleos_trace.specs.Reading.{ended, most_text}
+use Rattle.eleos_texts.specs.Fields.{is, is_blank, is_newline}
+use Rattle.eleos_texts.specs.Reasons.{at_line, one, one_and_more}
+use Rattle.eleos_texts.specs.Texts.{ended, most_text}
 use Rattle.eleos_trace.specs.Spelling.{fields, actor_text}
 use Rattle.eleos_report.specs.declared.line.LogLine.{LogLine}
 use Rattle.eleos_report.specs.Fields.{most_u64, number_of, optional_of, who_of}

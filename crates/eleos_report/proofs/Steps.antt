@@ -1,13 +1,13 @@
 -- How reading goes on line by line.
 use Rattle.std.proofs.Common.{◌≡◌, ℕ, ◌+◌, List, [], ◌∷◌, ◌++◌, Result, Ok, Err, true, false, refl, sym, ap, append_assoc}
 use Rattle.std.specs.List.{slice_split}
-use Rattle.eleos_trace.specs.declared.why.Why.{Why}
-use Rattle.eleos_trace.specs.declared.why.Why.TheVariants.{Cut}
-use Rattle.eleos_trace.specs.declared.why.Bad.{Bad}
-use Rattle.eleos_trace.specs.Fields.{is_blank, is_newline}
-use Rattle.eleos_trace.specs.Reasons.{◌>>=◌}
-use Rattle.eleos_trace.specs.Reading.{ended}
-use Rattle.eleos_trace.proofs.Texts.{split_cases}
+use Rattle.eleos_texts.specs.declared.why.Why.{Why}
+use Rattle.eleos_texts.specs.declared.why.Why.TheVariants.{Cut}
+use Rattle.eleos_texts.specs.declared.why.Bad.{Bad}
+use Rattle.eleos_texts.specs.Fields.{is_blank, is_newline}
+use Rattle.eleos_texts.specs.Reasons.{◌>>=◌}
+use Rattle.eleos_texts.specs.Texts.{ended}
+use Rattle.eleos_texts.proofs.Texts.{split_cases}
 use Rattle.eleos_trace.specs.declared.trace.Kind.{Kind}
 use Rattle.eleos_report.specs.declared.line.LogLine.{LogLine}
 use Rattle.eleos_report.specs.Log.{is_last}

@@ -1,10 +1,10 @@
 -- Reading the frames of a sweep one after another.
 use Rattle.std.proofs.Common.{◌≡◌, ◌<◌, ℕ, List, [], ◌∷◌, ◌++◌, Bor, map, length, get_or, drop, drop-cons, suc, Result, Ok, Err, refl, sym, ap, ◌∙◌, append_assoc, append-nil}
 use Rattle.eleos_base.specs.declared.memory.Looked.{Looked}
-use Rattle.eleos_trace.specs.declared.why.Why.{Why}
-use Rattle.eleos_trace.specs.declared.why.LineRefused.{LineRefused}
-use Rattle.eleos_trace.specs.declared.why.LineRefused.TheVariants as line_refused
-use Rattle.eleos_trace.specs.Reasons.{LineFails, ◌>>=◌}
+use Rattle.eleos_texts.specs.declared.why.Why.{Why}
+use Rattle.eleos_texts.specs.declared.why.LineRefused.{LineRefused}
+use Rattle.eleos_texts.specs.declared.why.LineRefused.TheVariants as line_refused
+use Rattle.eleos_texts.specs.Reasons.{LineFails, ◌>>=◌}
 use Rattle.eleos_report.specs.Fields.{looked_of}
 use Rattle.eleos_report.specs.Answers.{sweep_of}
 

@@ -3,10 +3,10 @@ use Rattle.std.specs.Prelude.{ℕ, List, [], ◌∷◌, length, Bool, true, fals
 use Rattle.eleos_base.specs.declared.memory.Looked.{Looked}
 use Rattle.eleos_base.specs.declared.memory.Part.{Part as Offence}
 use Rattle.eleos_base.specs.declared.memory.Part.TheVariants.{Present, Frame, Absent, Linked, Owner, Untied}
-use Rattle.eleos_trace.specs.declared.why.Why.{Why}
-use Rattle.eleos_trace.specs.declared.why.Why.TheVariants.{Form}
-use Rattle.eleos_trace.specs.Fields.{is, most_u32}
-use Rattle.eleos_trace.specs.Reasons.{with_one, with_one_and_more, ◌>>=◌}
+use Rattle.eleos_texts.specs.declared.why.Why.{Why}
+use Rattle.eleos_texts.specs.declared.why.Why.TheVariants.{Form}
+use Rattle.eleos_texts.specs.Fields.{is, most_u32}
+use Rattle.eleos_texts.specs.Reasons.{with_one, with_one_and_more, ◌>>=◌}
 use Rattle.eleos_trace.specs.declared.trace.Kind.{Kind}
 use Rattle.eleos_trace.specs.declared.trace.Kind.TheVariants.{Run, Replay}
 use Rattle.eleos_report.specs.declared.answer.Answer.{Answer}

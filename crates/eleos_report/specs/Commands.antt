@@ -1,11 +1,11 @@
 -- Commands by their words.
 use Rattle.std.specs.Prelude.{ℕ, List, Bool, true, false, Option, Some, None, Result, Ok, Err, codes, if◌then◌else◌}
-use Rattle.eleos_trace.specs.declared.why.Why.{Why}
-use Rattle.eleos_trace.specs.declared.why.Why.TheVariants.{Form}
+use Rattle.eleos_texts.specs.declared.why.Why.{Why}
+use Rattle.eleos_texts.specs.declared.why.Why.TheVariants.{Form}
 use Rattle.eleos_trace.specs.declared.word.Word.{Word}
 use Rattle.eleos_trace.specs.declared.word.Word.TheVariants.{Alloc, Free, Share, Read, Write, Tie, Untie, Fill, Evict, Move, Flip, SwapPlaces, Keep, Restore}
-use Rattle.eleos_trace.specs.Fields.{is, most_u32}
-use Rattle.eleos_trace.specs.Reasons.{with_one, with_two, with_three, with_one_and_more, ◌>>=◌}
+use Rattle.eleos_texts.specs.Fields.{is, most_u32}
+use Rattle.eleos_texts.specs.Reasons.{with_one, with_two, with_three, with_one_and_more, ◌>>=◌}
 use Rattle.eleos_trace.specs.declared.trace.Kind.{Kind}
 use Rattle.eleos_trace.specs.declared.trace.Kind.TheVariants.{Run}
 use Rattle.eleos_report.specs.Fields.{formed, number_of, name_of, bytes_of, optional_of}

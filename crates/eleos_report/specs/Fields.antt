@@ -2,12 +2,12 @@
 use Rattle.std.specs.Prelude.{ℕ, List, Bool, ◌&&◌, ◌==◌, length, Option, Some, None, Result, Ok, Err, codes, if◌then◌else◌}
 use Rattle.std.specs.List.{slice_split}
 use Rattle.eleos_base.specs.declared.memory.Looked.{Looked}
-use Rattle.eleos_trace.specs.declared.why.Why.{Why}
-use Rattle.eleos_trace.specs.declared.why.Why.TheVariants.{Form}
+use Rattle.eleos_texts.specs.declared.why.Why.{Why}
+use Rattle.eleos_texts.specs.declared.why.Why.TheVariants.{Form}
 use Rattle.eleos_trace.specs.declared.word.Actor.{Actor}
-use Rattle.eleos_trace.specs.Fields.{is, is_numeral, number, is_up_to, most_u32, is_name, is_hex, bytes_in}
+use Rattle.eleos_texts.specs.Fields.{is, is_numeral, number, is_up_to, most_u32, is_name, is_hex, bytes_in}
 use Rattle.eleos_trace.specs.Actors.{actor_of}
-use Rattle.eleos_trace.specs.Reasons.{with_two, ◌>>=◌}
+use Rattle.eleos_texts.specs.Reasons.{with_two, ◌>>=◌}
 
 -- the largest number of 64 bits
 abbrev pub most_u64 : ℕ

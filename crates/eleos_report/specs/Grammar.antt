@@ -7,7 +7,7 @@ use Rattle.eleos_trace.specs.declared.word.Actor as actors
 use Rattle.eleos_trace.specs.declared.word.Actor.TheVariants.{Caller, Swapper, Balloon, Host}
 use Rattle.eleos_trace.specs.declared.word.Word.{Word}
 use Rattle.eleos_trace.specs.declared.word.Word.TheVariants.{Alloc, Free, Share, Read, Write, Tie, Untie, Fill, Evict, Move, Flip, SwapPlaces, Keep, Restore}
-use Rattle.eleos_trace.specs.Fields.{is_name}
+use Rattle.eleos_texts.specs.Fields.{is_name}
 use Rattle.eleos_trace.specs.declared.trace.Kind.{Kind}
 use Rattle.eleos_report.specs.declared.answer.Answer.{Answer}
 use Rattle.eleos_report.specs.declared.answer.Answer.TheVariants.{At, Okay, Got, Put, BadSize, NoSpace, NotABlock, NotYours, BadRange, Unallocated, Worn, Tampered, NoFrame, Illegal, Nothing, Skipped}

@@ -1,7 +1,7 @@
 -- What holds of every log.
 use Rattle.std.specs.Prelude.{◌≡◌, ℕ, ◌≤◌, List, length, map, Ok}
 use Rattle.std.specs.Char.{to_ascii_lowercase}
-use Rattle.eleos_trace.specs.Reading.{most_text}
+use Rattle.eleos_texts.specs.Texts.{most_text}
 use Rattle.eleos_trace.specs.declared.trace.Kind.{Kind}
 use Rattle.eleos_report.specs.declared.line.LogLine.{LogLine}
 use Rattle.eleos_report.specs.Grammar.{IsLog}

@@ -5,7 +5,8 @@ use Rattle.std.specs.Fmt.{decimal}
 use Rattle.eleos_base.specs.declared.memory.Looked.{Looked}
 use Rattle.eleos_base.specs.declared.memory.Part.{Part as Offence}
 use Rattle.eleos_base.specs.declared.memory.Part.TheVariants.{Present, Frame, Absent, Linked, Owner, Untied}
-use Rattle.eleos_trace.specs.Spelling.{hex_text, fields, actor_text}
+use Rattle.eleos_texts.specs.Texts.{hex_text}
+use Rattle.eleos_trace.specs.Spelling.{fields, actor_text}
 use Rattle.eleos_report.specs.declared.answer.Answer.{Answer}
 use Rattle.eleos_report.specs.declared.answer.Answer.TheVariants.{At, Okay, Got, Put, BadSize, NoSpace, NotABlock, NotYours, BadRange, Unallocated, Worn, Tampered, NoFrame, Illegal, Nothing, Skipped}
 use Rattle.eleos_report.specs.declared.line.LogLine.{LogLine}

@@ -1,12 +1,12 @@
 -- The meaning of a text: the lines of a log, or its first bad line with the reason.
 use Rattle.std.specs.Prelude.{ℕ, ◌+◌, List, [], ◌∷◌, length, nat_le, Bool, Result, Ok, Err, codes, if◌then◌else◌}
 use Rattle.std.specs.List.{slice_split, list_any, before_first, after_first}
-use Rattle.eleos_trace.specs.declared.why.Why.{Why}
-use Rattle.eleos_trace.specs.declared.why.Why.TheVariants.{TooLarge, Cut}
-use Rattle.eleos_trace.specs.declared.why.Bad.{Bad}
-use Rattle.eleos_trace.specs.Fields.{is, is_blank, is_newline}
-use Rattle.eleos_trace.specs.Reasons.{at_line, one_and_more, with_one, with_one_and_more, ◌>>=◌}
-use Rattle.eleos_trace.specs.Reading.{ended, most_text}
+use Rattle.eleos_texts.specs.declared.why.Why.{Why}
+use Rattle.eleos_texts.specs.declared.why.Why.TheVariants.{TooLarge, Cut}
+use Rattle.eleos_texts.specs.declared.why.Bad.{Bad}
+use Rattle.eleos_texts.specs.Fields.{is, is_blank, is_newline}
+use Rattle.eleos_texts.specs.Reasons.{at_line, one_and_more, with_one, with_one_and_more, ◌>>=◌}
+use Rattle.eleos_texts.specs.Texts.{ended, most_text}
 use Rattle.eleos_trace.specs.declared.trace.Kind.{Kind}
 use Rattle.eleos_report.specs.declared.line.LogLine.{LogLine}
 use Rattle.eleos_report.specs.declared.line.LogLine.TheVariants.{Said, End}

@@ -1,6 +1,6 @@
 // Commands by their words.
 ghost use Rattle.std.specs.Prelude.{◌≡◌, ℕ, List, map};
-ghost use Rattle.eleos_trace.specs.Reasons.{Reads};
+ghost use Rattle.eleos_texts.specs.Reasons.{Reads};
 ghost use Rattle.eleos_report.specs.Commands.{is_command, is_move, name_alone, name_and_number};
 ghost use Rattle.eleos_report.specs.Commands.{number_alone, two_numbers, read_of, write_of, move_of};
 ghost use Rattle.eleos_report.specs.Commands.{command_in, command_of, frame_command_of};
@@ -8,8 +8,9 @@ ghost use Rattle.eleos_report.specs.Commands.{host_command_of};
 
 use crate::fields::{bytes_of, name_of, number_of, owner_of};
 use eleos_base::Bytes;
-use eleos_trace::counts::{one, one_and_more, three, two};
-use eleos_trace::{Kind, LineRefused, Why, Word, refused};
+use eleos_texts::counts::{one, one_and_more, three, two};
+use eleos_texts::{LineRefused, Why, refused};
+use eleos_trace::{Kind, Word};
 use std::alloc::Global;
 
 /// A command of this kind.

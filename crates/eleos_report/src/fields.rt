@@ -2,16 +2,17 @@
 ghost use Rattle.std.specs.Prelude.{◌≡◌, ℕ, List, IfOk, map};
 ghost use Rattle.std.specs.List.{slice_split};
 ghost use Rattle.eleos_trace.specs.Actors.{actor_of, is_caller_word};
-ghost use Rattle.eleos_trace.specs.Fields.{most_u32};
-ghost use Rattle.eleos_trace.specs.Reasons.{Reads};
+ghost use Rattle.eleos_texts.specs.Fields.{most_u32};
+ghost use Rattle.eleos_texts.specs.Reasons.{Reads};
 ghost use Rattle.eleos_report.specs.Fields.{most_u64, number_of, name_of, bytes_of, block_of};
 ghost use Rattle.eleos_report.specs.Fields.{optional_of, who_of, is_colon, looked_of};
 
 use crate::Block;
 use eleos_base::{Bytes, Looked};
-use eleos_trace::counts::two;
-use eleos_trace::fields::{hex_bytes, is_name, number_u32, number_up_to};
-use eleos_trace::{Actor, LineRefused, Why, refused};
+use eleos_texts::counts::two;
+use eleos_texts::fields::{hex_bytes, is_name, number_u32, number_up_to};
+use eleos_texts::{LineRefused, Why, refused};
+use eleos_trace::Actor;
 use std::alloc::{AllocError, Global};
 
 /// Bytes of a block.

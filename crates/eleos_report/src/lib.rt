@@ -8,14 +8,10 @@ pub mod laws;
 mod line;
 mod reading;
 mod replies;
-mod text;
 mod words;
 mod writing;
 
 pub use answer::{Answer, Block};
 pub use line::LogLine;
 pub use reading::read_log;
-pub use writing::{push_line, write_line};
-
-#[cfg(test)]
-mod tests;
+pub use writing::{push_end, push_line, push_put, push_said, write_line};

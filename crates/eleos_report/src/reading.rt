@@ -2,9 +2,9 @@
 ghost use Rattle.std.specs.Prelude.{◌≡◌, ◌≤◌, ◌+◌, ◌^◌, ℕ, List, [], codes, length, map, IfOk};
 ghost use Rattle.std.specs.List.{position, slice_split};
 ghost use Rattle.std.specs.Str.{bytes_eq};
-ghost use Rattle.eleos_trace.specs.Fields.{is_newline};
-ghost use Rattle.eleos_trace.specs.Reading.{most_text};
-ghost use Rattle.eleos_trace.specs.Reasons.{Gives, Reads};
+ghost use Rattle.eleos_texts.specs.Fields.{is_newline};
+ghost use Rattle.eleos_texts.specs.Texts.{most_text};
+ghost use Rattle.eleos_texts.specs.Reasons.{Gives, Reads};
 ghost use Rattle.eleos_report.specs.Grammar.{IsLog};
 ghost use Rattle.eleos_report.specs.Log.{is_last};
 ghost use Rattle.eleos_report.specs.Reading.{end_of, is_equals, line_of, lines_of, log_of};
@@ -15,9 +15,10 @@ use crate::commands::command_in;
 use crate::fields::{long_number_of, stamp_of, who_of};
 use crate::replies::answer_in;
 use eleos_base::List;
-use eleos_trace::counts::{one, one_and_more};
-use eleos_trace::splits::{first_line, words_of};
-use eleos_trace::{Kind, LineRefused, TraceRefused, Why, at_line, nothing_after, refused};
+use eleos_texts::counts::{one, one_and_more};
+use eleos_texts::splits::{first_line, words_of};
+use eleos_texts::{LineRefused, TraceRefused, Why, at_line, nothing_after, refused};
+use eleos_trace::Kind;
 use std::alloc::Global;
 
 /// Bytes of a text.

@@ -1,6 +1,6 @@
 // Replies by their words.
 ghost use Rattle.std.specs.Prelude.{◌≡◌, ℕ, List, map};
-ghost use Rattle.eleos_trace.specs.Reasons.{Reads};
+ghost use Rattle.eleos_texts.specs.Reasons.{Reads};
 ghost use Rattle.eleos_report.specs.Answers.{is_reply, part_of, sweep_of, told_block_of};
 ghost use Rattle.eleos_report.specs.Answers.{tampered_of, plain_of, other_answer_of, answer_of};
 ghost use Rattle.eleos_report.specs.Answers.{answer_in};
@@ -9,8 +9,9 @@ use crate::commands::number_alone;
 use crate::fields::{block_of, bytes_of, looked_of, number_of};
 use crate::{Answer, Block};
 use eleos_base::{List, Looked, Part};
-use eleos_trace::counts::{one, one_and_more};
-use eleos_trace::{Kind, LineRefused, Why, refused};
+use eleos_texts::counts::{one, one_and_more};
+use eleos_texts::{LineRefused, Why, refused};
+use eleos_trace::Kind;
 use std::alloc::Global;
 
 /// A reply of this kind.

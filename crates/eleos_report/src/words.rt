@@ -4,10 +4,10 @@ ghost use Rattle.std.specs.Fmt.{decimal};
 ghost use Rattle.eleos_trace.specs.Spelling.{actor_text, fields, owner_text};
 ghost use Rattle.eleos_report.specs.Log.{spaced};
 
-use crate::text::{
+use eleos_base::NoMemory;
+use eleos_texts::printing::{
     push, push_field, push_hex_field, push_number, push_number_field, push_numbered,
 };
-use eleos_base::NoMemory;
 use eleos_trace::{Actor, Word};
 use std::alloc::Global;
 

@@ -1,5 +1,7 @@
 // The printed spelling of replies and of whole lines.
-ghost use Rattle.std.specs.Prelude.{◌≡◌, ◌++◌, ◌∷◌, IfOk, OnOk, map};
+ghost use Rattle.std.specs.Prelude.{◌≡◌, ◌++◌, ◌∷◌, IfOk, OnOk, Some, map};
+ghost use Rattle.eleos_report.specs.declared.answer.Answer.TheVariants.{Put};
+ghost use Rattle.eleos_report.specs.declared.line.LogLine.TheVariants.{End, Said};
 ghost use Rattle.std.specs.String.{string_bytes};
 ghost use Rattle.eleos_trace.specs.declared.trace.Kind.{Kind};
 ghost use Rattle.eleos_report.specs.Grammar.{IsLine};
@@ -8,12 +10,12 @@ ghost use Rattle.eleos_trace.specs.Spelling.{actor_text, fields};
 ghost use Rattle.eleos_report.specs.Log.{answer_fields, line_text, looked_text, part_text};
 ghost use Rattle.eleos_report.specs.Log.{block_fields, line_fields, spaced, stamp_text};
 
-use crate::text::{
-    push, push_field, push_hex_field, push_number, push_number_field, push_numbered,
-};
 use crate::words::{push_actor, push_command};
 use crate::{Answer, Block, LogLine};
 use eleos_base::{Looked, NoMemory, Part};
+use eleos_texts::printing::{
+    push, push_field, push_hex_field, push_number, push_number_field, push_numbered,
+};
 use eleos_trace::{Actor, Word};
 use std::alloc::Global;
 
@@ -31,31 +33,98 @@ pub fn write_line(alloc: Global, line: &LogLine) -> Result<String, NoMemory>
 pub fn push_line(alloc: Global, out: &mut Vec<u8>, line: &LogLine) -> Result<(), NoMemory>
     ensures { OnOk result (out.new.items ≡ out.old.items ++ line_text line.now) }
 {
-    push_words(alloc, out, line)?;
-    push(out, b"\n")
-}
-
-/// The words of a line, with single blanks between.
-fn push_words(alloc: Global, out: &mut Vec<u8>, line: &LogLine) -> Result<(), NoMemory>
-    ensures { OnOk result (out.new.items
-        ≡ out.old.items ++ join_with_byte 32 (line_fields line.now)) }
-{
     match line {
         LogLine::Said {
             stamp,
             actor,
             command,
             reply,
-        } => {
-            push_command_line(alloc, out, *stamp, *actor, command)?;
-            push(out, b" =")?;
-            push_answer(alloc, out, reply)
-        }
-        LogLine::End { count } => {
-            push(out, b"end ")?;
-            push_number(alloc, out, *count)
-        }
+        } => push_said(alloc, out, *stamp, *actor, command, reply),
+        LogLine::End { count } => push_end(alloc, out, *count),
     }
+}
+
+/// Adds the line of a command with its newline.
+pub fn push_said(
+    alloc: Global,
+    out: &mut Vec<u8>,
+    stamp: Option<u64>,
+    actor: Actor,
+    command: &Word,
+    reply: &Answer,
+) -> Result<(), NoMemory>
+    ensures { OnOk result (out.new.items
+        ≡ out.old.items ++ line_text (Said stamp actor command.now reply.now)) }
+{
+    push_said_words(alloc, out, stamp, actor, command, reply)?;
+    push(out, b"\n")
+}
+
+/// Adds the line of an evict that put so many blocks.
+pub fn push_put(
+    alloc: Global,
+    out: &mut Vec<u8>,
+    stamp: u64,
+    actor: Actor,
+    command: &Word,
+    count: u64,
+) -> Result<(), NoMemory>
+    ensures { OnOk result (out.new.items
+        ≡ out.old.items ++ line_text (Said (Some stamp) actor command.now (Put count))) }
+{
+    push_put_words(alloc, out, stamp, actor, command, count)?;
+    push(out, b"\n")
+}
+
+/// Adds the last line of a log.
+pub fn push_end(alloc: Global, out: &mut Vec<u8>, count: u64) -> Result<(), NoMemory>
+    ensures { OnOk result (out.new.items ≡ out.old.items ++ line_text (End count)) }
+{
+    push(out, b"end ")?;
+    push_number(alloc, out, count)?;
+    push(out, b"\n")
+}
+
+/// The words of the line of an evict, with single blanks between.
+fn push_put_words(
+    alloc: Global,
+    out: &mut Vec<u8>,
+    stamp: u64,
+    actor: Actor,
+    command: &Word,
+    count: u64,
+) -> Result<(), NoMemory>
+    ensures { OnOk result (out.new.items
+        ≡ out.old.items ++ join_with_byte 32 (line_fields (Said (Some stamp) actor command.now (Put count)))) }
+{
+    push_command_line(alloc, out, Some(stamp), actor, command)?;
+    push(out, b" =")?;
+    push_put_answer(alloc, out, count)
+}
+
+/// `put N`, with a blank before each.
+fn push_put_answer(alloc: Global, out: &mut Vec<u8>, count: u64) -> Result<(), NoMemory>
+    ensures { OnOk result (out.new.items ≡ out.old.items ++ spaced (answer_fields (Put count))) }
+{
+    push(out, b" put ")?;
+    push_number(alloc, out, count)
+}
+
+/// The words of the line of a command, with single blanks between.
+fn push_said_words(
+    alloc: Global,
+    out: &mut Vec<u8>,
+    stamp: Option<u64>,
+    actor: Actor,
+    command: &Word,
+    reply: &Answer,
+) -> Result<(), NoMemory>
+    ensures { OnOk result (out.new.items
+        ≡ out.old.items ++ join_with_byte 32 (line_fields (Said stamp actor command.now reply.now))) }
+{
+    push_command_line(alloc, out, stamp, actor, command)?;
+    push(out, b" =")?;
+    push_answer(alloc, out, reply)
 }
 
 /// A stamp, an actor and a command.

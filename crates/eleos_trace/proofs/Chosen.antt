@@ -5,12 +5,12 @@ use Rattle.eleos_trace.specs.declared.seen.Seen.{Seen}
 use Rattle.eleos_trace.specs.declared.trace.Kind.{Kind}
 use Rattle.eleos_trace.specs.declared.trace.Kind.TheVariants.{Run, Replay}
 use Rattle.eleos_trace.specs.declared.trace.Line.{Line}
-use Rattle.eleos_trace.specs.declared.why.Why.{Why}
-use Rattle.eleos_trace.specs.declared.why.Why.TheVariants.{Form, Many, Actor, Range, Name, Enclave, Later}
+use Rattle.eleos_texts.specs.declared.why.Why.{Why}
+use Rattle.eleos_texts.specs.declared.why.Why.TheVariants.{Form, Many, Actor, Range, Name, Enclave, Later}
 use Rattle.eleos_trace.specs.declared.word.Actor as actors
 use Rattle.eleos_trace.specs.declared.word.Word.{Word}
-use Rattle.eleos_trace.specs.Fields.{is, is_numeral, is_up_to, most_u32, is_name, is_hex, bytes_in}
-use Rattle.eleos_trace.specs.Reasons.{one, two, three, two_and_more}
+use Rattle.eleos_texts.specs.Fields.{is, is_numeral, is_up_to, most_u32, is_name, is_hex, bytes_in}
+use Rattle.eleos_texts.specs.Reasons.{one, two, three, two_and_more}
 use Rattle.eleos_trace.specs.Machines.{is_caller}
 use Rattle.eleos_trace.specs.Seen.{has_room, is_bound}
 use Rattle.eleos_trace.specs.Actors.{actor_of, is_host, is_swapper, is_balloon}
@@ -23,7 +23,7 @@ use Rattle.eleos_trace.specs.RunForms.{is_call, point_of, link_of, step_of, srea
 use Rattle.eleos_trace.specs.Planned as planned
 use Rattle.eleos_trace.specs.ReplayForms as replay_forms
 use Rattle.eleos_trace.specs.Verbs.{is_link, run_command_of, replay_command_of, host_command_of, frame_command_of, planned_frame_command_of, planned_command_of, other_command_of, command_of, command_by, line_of}
-use Rattle.eleos_trace.proofs.Inversion.{bind_ok, guard_ok, no_value, cond_either, ok_is}
+use Rattle.eleos_texts.proofs.Inversion.{bind_ok, guard_ok, no_value, cond_either, ok_is}
 use Rattle.eleos_trace.proofs.Given.{IsGiven, alloc_ok, free_ok, share_ok, read_ok, write_ok, tie_ok, untie_ok, fill_ok, evict_ok, move_ok, flip_ok, swap_ok, keep_ok, restore_ok}
 
 -- a command of the other kind is never given

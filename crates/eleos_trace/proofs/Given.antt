@@ -6,9 +6,9 @@ use Rattle.eleos_trace.specs.declared.word.Actor as actors
 use Rattle.eleos_trace.specs.declared.word.Actor.TheVariants.{Swapper, Host}
 use Rattle.eleos_trace.specs.declared.word.Word.{Word}
 use Rattle.eleos_trace.specs.declared.word.Word.TheVariants.{Alloc, Free, Share, Read, Write, Tie, Untie, Fill, Evict, Move, Flip, SwapPlaces, Keep, Restore}
-use Rattle.eleos_trace.specs.declared.why.Why.{Why}
-use Rattle.eleos_trace.specs.Fields.{is, is_numeral, number, is_up_to, most_u32, bytes_in}
-use Rattle.eleos_trace.specs.Reasons.{one, two, three}
+use Rattle.eleos_texts.specs.declared.why.Why.{Why}
+use Rattle.eleos_texts.specs.Fields.{is, is_numeral, number, is_up_to, most_u32, bytes_in}
+use Rattle.eleos_texts.specs.Reasons.{one, two, three}
 use Rattle.eleos_trace.specs.Machines.{all_pages, all_frames, places}
 use Rattle.eleos_trace.specs.Commands.{alloc_of, name_of, free_of, share_of, read_of, write_of}
 use Rattle.eleos_trace.specs.Ties.{offset_of, tie_of, untie_of}
@@ -20,7 +20,7 @@ use Rattle.eleos_trace.specs.declared.trace.Kind.TheVariants.{Run, Replay}
 use Rattle.eleos_base.specs.declared.plan.Plan.{Plan}
 use Rattle.eleos_trace.specs.Kinds.{MayGiveIn}
 use Rattle.eleos_trace.specs.Replays.{IsCallerOf}
-use Rattle.eleos_trace.proofs.Inversion.{bind_ok, guard_ok, ok_is}
+use Rattle.eleos_texts.proofs.Inversion.{bind_ok, guard_ok, ok_is}
 use Rattle.eleos_trace.proofs.Permits.{room_of, both, le_of, caller_of, swapper_of, balloon_actor, host_of, below_of, two_below, place_and_bit, move_ok_owners}
 
 -- there was room for the command, and the actor may give it in a trace of this kind

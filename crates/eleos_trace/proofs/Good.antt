@@ -16,9 +16,9 @@ use Rattle.eleos_base.specs.Plain.{is_good_size}
 use Rattle.eleos_trace.specs.declared.header.Header.{Header}
 use Rattle.eleos_trace.specs.declared.header.NamedBlock.{NamedBlock}
 use Rattle.eleos_trace.specs.declared.trace.Line.{Line}
-use Rattle.eleos_trace.specs.declared.why.Why.TheVariants.{Form, Range, Name, Enclave, BadSize, NoSpace, Owner}
-use Rattle.eleos_trace.specs.Fields.{number, is_up_to}
-use Rattle.eleos_trace.specs.Reasons.{four, six, eight}
+use Rattle.eleos_texts.specs.declared.why.Why.TheVariants.{Form, Range, Name, Enclave, BadSize, NoSpace, Owner}
+use Rattle.eleos_texts.specs.Fields.{number, is_up_to}
+use Rattle.eleos_texts.specs.Reasons.{four, six, eight}
 use Rattle.eleos_trace.specs.Machines.{pages_of, is_enclave}
 use Rattle.eleos_trace.specs.Homes.{most_pages, enclave_line, caller_line, AreGoodEnclaves, AreGoodCallers}
 use Rattle.eleos_trace.specs.Blocks.{has_space, may_own, block_line, EachFindsRoom, AreGoodBlocks}
@@ -26,7 +26,7 @@ use Rattle.eleos_trace.specs.WholeHeader.{plan_of, IsGoodHeader}
 use Rattle.eleos_trace.specs.Reading.{trace_with}
 use Rattle.eleos_trace.specs.declared.trace.Kind.{Kind}
 use Rattle.eleos_trace.specs.Kinds.{AreGiven, IsTrace}
-use Rattle.eleos_trace.proofs.Inversion.{bind_ok, guard_ok, ok_is}
+use Rattle.eleos_texts.proofs.Inversion.{bind_ok, guard_ok, ok_is}
 
 -- one more
 pub All-push : {A : Type 0} (P : A → Type 0) (xs : List A) (x : A) → All P xs → P x → All P (xs ++ x ∷ [])

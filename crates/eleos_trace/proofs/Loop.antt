@@ -4,18 +4,19 @@ use Rattle.std.specs.List.{slice_split}
 use Rattle.std.specs.Str.{bytes_eq}
 use Rattle.eleos_trace.specs.declared.trace.Line.{Line}
 use Rattle.eleos_trace.specs.declared.seen.Seen.{Seen}
-use Rattle.eleos_trace.specs.declared.why.Why.TheVariants.{Cut}
-use Rattle.eleos_trace.specs.declared.why.Bad.{Bad}
-use Rattle.eleos_trace.specs.declared.why.TraceRefused.{TraceRefused}
-use Rattle.eleos_trace.specs.declared.why.TraceRefused.TheVariants as refused
-use Rattle.eleos_trace.specs.declared.why.LineRefused.{LineRefused}
-use Rattle.eleos_trace.specs.declared.why.LineRefused.TheVariants as line_refused
-use Rattle.eleos_trace.specs.Fields.{is_blank, is_newline}
-use Rattle.eleos_trace.specs.Reasons.{Fails, Reads, answer_at}
+use Rattle.eleos_texts.specs.declared.why.Why.TheVariants.{Cut}
+use Rattle.eleos_texts.specs.declared.why.Bad.{Bad}
+use Rattle.eleos_texts.specs.declared.why.TraceRefused.{TraceRefused}
+use Rattle.eleos_texts.specs.declared.why.TraceRefused.TheVariants as refused
+use Rattle.eleos_texts.specs.declared.why.LineRefused.{LineRefused}
+use Rattle.eleos_texts.specs.declared.why.LineRefused.TheVariants as line_refused
+use Rattle.eleos_texts.specs.Fields.{is_blank, is_newline}
+use Rattle.eleos_texts.specs.Reasons.{Fails, Reads, answer_at}
 use Rattle.eleos_trace.specs.Seen.{seen_after}
 use Rattle.eleos_trace.specs.Verbs.{line_of}
 use Rattle.eleos_trace.specs.declared.header.Header.{Header}
-use Rattle.eleos_trace.specs.Reading.{commands_of, ended}
+use Rattle.eleos_texts.specs.Texts.{ended}
+use Rattle.eleos_trace.specs.Reading.{commands_of}
 use Rattle.eleos_trace.proofs.Steps.{with_front, with_front-push, commands_of-end, commands_of-more, commands_of-bad, commands_of-cut}
 
 -- front has the commands so far, and whole those of all lines
@@ -25,7 +26,7 @@ module _ (header : Header) (line : ℕ) (seen : Seen) (front : List Line) (rest 
   at_cut parts = sym (rw (parts, commands_of-cut header line seen rest) at so_far)
 
   module _ (text after : List ℕ) (parts : slice_split is_newline rest ≡ text ∷ slice_split is_newline after) where
-    pub at_end : bytes_eq text (codes "end") ≡ true → ended (line + 1) (slice_split is_newline after) ≡ Ok [] → whole ≡ Ok front
+    pub at_end : bytes_eq text (codes "end") ≡ true → ended (line + 1) (slice_split is_newline after) ≡ Ok tt → whole ≡ Ok front
     at_end end none =
         let last = rw (parts, commands_of-end header line seen text after end, none) at so_far in
         sym last ∙ ap Ok (append-nil front)

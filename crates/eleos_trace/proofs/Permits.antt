@@ -7,7 +7,7 @@ use Rattle.eleos_trace.specs.declared.header.Header.{Header}
 use Rattle.eleos_trace.specs.declared.seen.Seen.{Seen}
 use Rattle.eleos_trace.specs.declared.word.Actor as actors
 use Rattle.eleos_trace.specs.declared.word.Actor.TheVariants.{Caller, Swapper, Balloon, Host}
-use Rattle.eleos_trace.specs.Fields.{is_numeral, number, is_up_to, is_below}
+use Rattle.eleos_texts.specs.Fields.{is_numeral, number, is_up_to, is_below}
 use Rattle.eleos_trace.specs.Machines.{is_enclave, is_caller}
 use Rattle.eleos_trace.specs.Actors.{is_swapper, is_balloon, is_host}
 use Rattle.eleos_trace.specs.Seen.{has_room}

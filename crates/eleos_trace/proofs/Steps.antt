@@ -1,20 +1,20 @@
 -- How reading goes on line by line.
-use Rattle.std.proofs.Common.{◌≡◌, ℕ, ◌+◌, List, [], ◌∷◌, ◌++◌, length, Result, Ok, Err, Bool, true, false, refl, sym, ap, append_assoc, cond, eqb, codes, arith}
-use Rattle.std.proofs.lemmas.Bool.Decides.{nat_tests}
-use Rattle.std.specs.List.{slice_split, onto_first}
+use Rattle.std.proofs.Common.{◌≡◌, ℕ, ◌+◌, List, [], ◌∷◌, ◌++◌, Result, Ok, Err, Bool, true, false, refl, sym, ap, append_assoc, codes}
+use Rattle.std.specs.List.{slice_split}
 use Rattle.std.specs.Str.{bytes_eq}
 use Rattle.eleos_trace.specs.declared.trace.Line.{Line}
 use Rattle.eleos_trace.specs.declared.seen.Seen.{Seen}
-use Rattle.eleos_trace.specs.declared.why.Why.{Why}
-use Rattle.eleos_trace.specs.declared.why.Why.TheVariants.{Cut, After}
-use Rattle.eleos_trace.specs.declared.why.Bad.{Bad}
-use Rattle.eleos_trace.specs.Fields.{is_blank, is_newline}
-use Rattle.eleos_trace.specs.Reasons.{◌>>=◌}
+use Rattle.eleos_texts.specs.declared.why.Why.{Why}
+use Rattle.eleos_texts.specs.declared.why.Why.TheVariants.{Cut}
+use Rattle.eleos_texts.specs.declared.why.Bad.{Bad}
+use Rattle.eleos_texts.specs.Fields.{is_blank, is_newline}
+use Rattle.eleos_texts.specs.Reasons.{◌>>=◌}
 use Rattle.eleos_trace.specs.Seen.{seen_after}
 use Rattle.eleos_trace.specs.Verbs.{line_of}
 use Rattle.eleos_trace.specs.declared.header.Header.{Header}
-use Rattle.eleos_trace.specs.Reading.{commands_of, ended}
-use Rattle.eleos_trace.proofs.Texts.{split_cases}
+use Rattle.eleos_texts.specs.Texts.{ended}
+use Rattle.eleos_trace.specs.Reading.{commands_of}
+use Rattle.eleos_texts.proofs.Texts.{split_cases}
 
 -- these commands, and then the others where there are any
 abbrev pub with_front : List Line → Result (List Line) Bad → Result (List Line) Bad
@@ -27,9 +27,9 @@ with_front-push front line (Err bad) = refl
 -- what the loop does at a line: text stands in it, and after behind it
 module _ (header : Header) (line : ℕ) (seen : Seen) (text after : List ℕ) where
   -- the end
-  pub commands_of-end : bytes_eq text (codes "end") ≡ true → commands_of header line seen (text ∷ slice_split is_newline after) ≡ ended (line + 1) (slice_split is_newline after)
+  pub commands_of-end : bytes_eq text (codes "end") ≡ true → commands_of header line seen (text ∷ slice_split is_newline after) ≡ (ended (line + 1) (slice_split is_newline after) >>= λ _. Ok [])
   unfolding commands_of
-  commands_of-end end = split_cases (λ parts. commands_of header line seen (text ∷ parts) ≡ ended (line + 1) parts) (λ part parts. rw end) after
+  commands_of-end end = split_cases (λ parts. commands_of header line seen (text ∷ parts) ≡ (ended (line + 1) parts >>= λ _. Ok [])) (λ part parts. rw end refl) after
 
   -- a command
   pub commands_of-more : (command : Line) → bytes_eq text (codes "end") ≡ false → line_of header seen (slice_split is_blank text) ≡ Ok command
@@ -49,19 +49,3 @@ module _ (header : Header) (line : ℕ) (seen : Seen) (text after : List ℕ) wh
 pub commands_of-cut : (header : Header) (line : ℕ) (seen : Seen) (text : List ℕ) → commands_of header line seen (text ∷ []) ≡ Err (record { line = line; why = Cut })
 unfolding commands_of
 commands_of-cut header line seen text = refl
-
--- something behind the end
-ended-more : (line c : ℕ) (cs : List ℕ) → ended line (slice_split is_newline (c ∷ cs)) ≡ Err (record { line = line; why = After })
-ended-more line c cs = by (is_newline c) where
-  by : (b : Bool) → ended line (cond b ([] ∷ slice_split is_newline cs) (onto_first c (slice_split is_newline cs))) ≡ Err (record { line = line; why = After })
-  by true = split_cases (λ parts. ended line ([] ∷ parts) ≡ Err (record { line = line; why = After })) (λ part parts. refl) cs
-  by false = split_cases (λ parts. ended line (onto_first c parts) ≡ Err (record { line = line; why = After })) (λ part parts. refl) cs
-
--- what is behind the end, by its bytes
-pub ended-empty_text : (line : ℕ) (after : List ℕ) → eqb (length after) 0 ≡ true → ended line (slice_split is_newline after) ≡ Ok []
-ended-empty_text line [] empty = refl
-ended-empty_text line (c ∷ cs) empty = absurd (grind (arith, nat_tests))
-
-pub ended-more_text : (line : ℕ) (after : List ℕ) → eqb (length after) 0 ≡ false → ended line (slice_split is_newline after) ≡ Err (record { line = line; why = After })
-ended-more_text line [] more = cc
-ended-more_text line (c ∷ cs) more = ended-more line c cs

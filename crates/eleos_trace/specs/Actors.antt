@@ -2,7 +2,7 @@
 use Rattle.std.specs.Prelude.{ℕ, ◌-◌, List, length, Bool, true, false, ◌==◌, ◌&&◌, nat_le, Option, Some, None, slice_index, codes, if◌then◌else◌}
 use Rattle.eleos_trace.specs.declared.word.Actor as actors
 use Rattle.eleos_trace.specs.declared.word.Actor.TheVariants.{Caller, Swapper, Balloon, Host}
-use Rattle.eleos_trace.specs.Fields.{is}
+use Rattle.eleos_texts.specs.Fields.{is}
 
 -- `c1` to `c8`
 abbrev pub is_caller_word : List ℕ → Bool

@@ -7,10 +7,10 @@ use Rattle.eleos_base.specs.declared.plan.Plan.{Plan}
 use Rattle.eleos_base.specs.Plans.{IsGoodBlock, enclave_of, sub_bytes}
 use Rattle.eleos_base.specs.Plain.{EnclaveMemory, opening, memory_of, lowest_run, subs_for, is_good_size}
 use Rattle.eleos_trace.specs.declared.header.NamedBlock.{NamedBlock}
-use Rattle.eleos_trace.specs.declared.why.Why.{Why}
-use Rattle.eleos_trace.specs.declared.why.Why.TheVariants.{Form, Range, Name, Enclave, BadSize, NoSpace, Owner}
-use Rattle.eleos_trace.specs.Fields.{is, is_numeral, number, is_name}
-use Rattle.eleos_trace.specs.Reasons.{unless, with_eight}
+use Rattle.eleos_texts.specs.declared.why.Why.{Why}
+use Rattle.eleos_texts.specs.declared.why.Why.TheVariants.{Form, Range, Name, Enclave, BadSize, NoSpace, Owner}
+use Rattle.eleos_texts.specs.Fields.{is, is_numeral, number, is_name}
+use Rattle.eleos_texts.specs.Reasons.{unless, with_eight}
 use Rattle.eleos_trace.specs.Machines.{is_enclave}
 
 -- header blocks of a machine

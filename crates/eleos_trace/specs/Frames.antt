@@ -6,10 +6,10 @@ use Rattle.eleos_trace.specs.declared.seen.Seen.{Seen}
 use Rattle.eleos_trace.specs.declared.word.Actor as actors
 use Rattle.eleos_trace.specs.declared.word.Word.{Word}
 use Rattle.eleos_trace.specs.declared.word.Word.TheVariants.{Fill, Evict, Move}
-use Rattle.eleos_trace.specs.declared.why.Why.{Why}
-use Rattle.eleos_trace.specs.declared.why.Why.TheVariants.{Form, Many, Actor, Range, Enclave}
-use Rattle.eleos_trace.specs.Fields.{is, is_numeral, number, is_below}
-use Rattle.eleos_trace.specs.Reasons.{unless, with_two, with_three, ◌>>=◌}
+use Rattle.eleos_texts.specs.declared.why.Why.{Why}
+use Rattle.eleos_texts.specs.declared.why.Why.TheVariants.{Form, Many, Actor, Range, Enclave}
+use Rattle.eleos_texts.specs.Fields.{is, is_numeral, number, is_below}
+use Rattle.eleos_texts.specs.Reasons.{unless, with_two, with_three, ◌>>=◌}
 use Rattle.eleos_trace.specs.Machines.{all_pages, all_frames, is_enclave}
 use Rattle.eleos_trace.specs.Actors.{is_swapper, is_balloon}
 use Rattle.eleos_trace.specs.Seen.{has_room}

@@ -1,11 +1,11 @@
 -- The lines of which a header has one each.
-use Rattle.std.specs.Prelude.{ℕ, ◌+◌, ◌^◌, List, [], ◌∷◌, length, Bool, ◌&&◌, ◌||◌, ◌==◌, nat_le, Result, codes}
+use Rattle.std.specs.Prelude.{ℕ, ◌+◌, ◌^◌, List, [], ◌∷◌, length, Bool, ◌&&◌, nat_le, Result, codes}
 use Rattle.eleos_base.specs.declared.plan.EnclavePlan.{EnclavePlan}
 use Rattle.eleos_trace.specs.declared.trace.Kind.{Kind}
-use Rattle.eleos_trace.specs.declared.why.Why.{Why}
-use Rattle.eleos_trace.specs.declared.why.Why.TheVariants.{Form, Range}
-use Rattle.eleos_trace.specs.Fields.{is, is_numeral, number, is_up_to, is_hex, bytes_in}
-use Rattle.eleos_trace.specs.Reasons.{unless, with_one, with_two, with_three}
+use Rattle.eleos_texts.specs.declared.why.Why.{Why}
+use Rattle.eleos_texts.specs.declared.why.Why.TheVariants.{Form, Range}
+use Rattle.eleos_texts.specs.Fields.{is, is_key_length, is_numeral, number, is_up_to, is_hex, bytes_in}
+use Rattle.eleos_texts.specs.Reasons.{unless, with_one, with_two, with_three}
 use Rattle.eleos_trace.specs.Machines.{frames_of}
 use Rattle.eleos_trace.specs.Homes.{most_frames}
 use Rattle.eleos_trace.specs.Spelling.{kind_text}
@@ -13,10 +13,6 @@ use Rattle.eleos_trace.specs.Spelling.{kind_text}
 -- how often a sub-page may be sealed
 abbrev pub most_wear : ℕ
 most_wear = 2 ^ 63
-
--- bytes of a key
-abbrev pub is_key_length : ℕ → Bool
-is_key_length n = n == 16 || n == 24 || n == 32
 
 -- `eleos 1 run` or `eleos 1 replay`, by the kind that is asked for
 abbrev pub title_line : Kind → List (List ℕ) → Result (Unit {0}) Why

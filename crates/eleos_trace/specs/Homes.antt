@@ -2,10 +2,10 @@
 use Rattle.std.specs.Prelude.{ℕ, ◌+◌, ◌≤◌, ◌<◌, List, length, All, ◌&&◌, nat_le, nat_lt, [], ◌∷◌, Result, codes}
 use Rattle.eleos_base.specs.declared.plan.EnclavePlan.{EnclavePlan}
 use Rattle.eleos_base.specs.Plans.{AreGoodPages}
-use Rattle.eleos_trace.specs.declared.why.Why.{Why}
-use Rattle.eleos_trace.specs.declared.why.Why.TheVariants.{Form, Range, Enclave}
-use Rattle.eleos_trace.specs.Fields.{is, is_numeral, is_number, number, is_up_to}
-use Rattle.eleos_trace.specs.Reasons.{unless, with_four, with_six}
+use Rattle.eleos_texts.specs.declared.why.Why.{Why}
+use Rattle.eleos_texts.specs.declared.why.Why.TheVariants.{Form, Range, Enclave}
+use Rattle.eleos_texts.specs.Fields.{is, is_numeral, is_number, number, is_up_to}
+use Rattle.eleos_texts.specs.Reasons.{unless, with_four, with_six}
 use Rattle.eleos_trace.specs.Machines.{pages_of, frames_of, is_enclave}
 
 -- enclaves of a machine

@@ -5,10 +5,10 @@ use Rattle.eleos_trace.specs.declared.seen.Seen.{Seen}
 use Rattle.eleos_trace.specs.declared.word.Actor as actors
 use Rattle.eleos_trace.specs.declared.word.Word.{Word}
 use Rattle.eleos_trace.specs.declared.word.Word.TheVariants.{Flip, SwapPlaces, Keep, Restore}
-use Rattle.eleos_trace.specs.declared.why.Why.{Why}
-use Rattle.eleos_trace.specs.declared.why.Why.TheVariants.{Form, Many, Actor, Range}
-use Rattle.eleos_trace.specs.Fields.{is_numeral, number, is_up_to, is_below}
-use Rattle.eleos_trace.specs.Reasons.{unless, with_one, with_two, ◌>>=◌}
+use Rattle.eleos_texts.specs.declared.why.Why.{Why}
+use Rattle.eleos_texts.specs.declared.why.Why.TheVariants.{Form, Many, Actor, Range}
+use Rattle.eleos_texts.specs.Fields.{is_numeral, number, is_up_to, is_below}
+use Rattle.eleos_texts.specs.Reasons.{unless, with_one, with_two, ◌>>=◌}
 use Rattle.eleos_trace.specs.Machines.{places}
 use Rattle.eleos_trace.specs.Actors.{is_host}
 use Rattle.eleos_trace.specs.Seen.{has_room}

@@ -1,7 +1,6 @@
 pub mod Actors
 pub mod Blocks
 pub mod Commands
-pub mod Fields
 pub mod Frames
 pub mod Header
 pub mod Homes
@@ -10,7 +9,6 @@ pub mod Kinds
 pub mod Machines
 pub mod Planned
 pub mod Reading
-pub mod Reasons
 pub mod ReplayForms
 pub mod Replays
 pub mod Rooms

@@ -5,7 +5,7 @@ use Rattle.eleos_base.specs.declared.plan.EnclavePlan.{EnclavePlan}
 use Rattle.eleos_base.specs.Plans.{subs_in}
 use Rattle.eleos_trace.specs.declared.word.Actor.{Actor}
 use Rattle.eleos_trace.specs.declared.word.Actor.TheVariants.{Caller}
-use Rattle.eleos_trace.specs.Fields.{is_numeral, number, is_below}
+use Rattle.eleos_texts.specs.Fields.{is_numeral, number, is_below}
 
 -- the pages of these enclaves
 abbrev pub pages_of : List EnclavePlan → ℕ

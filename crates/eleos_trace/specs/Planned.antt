@@ -7,10 +7,10 @@ use Rattle.eleos_trace.specs.declared.seen.Seen.{Seen}
 use Rattle.eleos_trace.specs.declared.word.Actor as actors
 use Rattle.eleos_trace.specs.declared.word.Actor.TheVariants.{Caller}
 use Rattle.eleos_trace.specs.declared.word.Word.{Word}
-use Rattle.eleos_trace.specs.declared.why.Why.{Why}
-use Rattle.eleos_trace.specs.declared.why.Why.TheVariants.{Form, Many, Actor, Range, Name, Enclave, Later}
-use Rattle.eleos_trace.specs.Fields.{is_numeral, is_number, is_up_to, most_u32, is_name, is_hex, bytes_in}
-use Rattle.eleos_trace.specs.Reasons.{refusal, with_one, with_two, with_three, ◌>>=◌}
+use Rattle.eleos_texts.specs.declared.why.Why.{Why}
+use Rattle.eleos_texts.specs.declared.why.Why.TheVariants.{Form, Many, Actor, Range, Name, Enclave, Later}
+use Rattle.eleos_texts.specs.Fields.{is_numeral, is_number, is_up_to, most_u32, is_name, is_hex, bytes_in}
+use Rattle.eleos_texts.specs.Reasons.{refusal, with_one, with_two, with_three, ◌>>=◌}
 use Rattle.eleos_trace.specs.Machines.{is_caller, is_enclave}
 use Rattle.eleos_trace.specs.Actors.{is_swapper, is_balloon, is_host}
 use Rattle.eleos_trace.specs.Seen.{has_room, is_bound}

@@ -4,30 +4,22 @@ use Rattle.std.specs.List.{slice_split}
 use Rattle.eleos_trace.specs.declared.trace.Kind.{Kind}
 use Rattle.eleos_trace.specs.declared.trace.Line.{Line}
 use Rattle.eleos_trace.specs.declared.trace.Trace.{Trace}
-use Rattle.eleos_trace.specs.declared.why.Why.TheVariants.{TooLarge, Cut, After}
-use Rattle.eleos_trace.specs.declared.why.Bad.{Bad}
+use Rattle.eleos_texts.specs.declared.why.Why.TheVariants.{TooLarge, Cut}
+use Rattle.eleos_texts.specs.declared.why.Bad.{Bad}
 use Rattle.eleos_trace.specs.declared.seen.Seen.{Seen}
 use Rattle.eleos_trace.specs.declared.header.Header.{Header}
-use Rattle.eleos_trace.specs.Fields.{is, is_blank, is_newline}
-use Rattle.eleos_trace.specs.Reasons.{at_line, ◌>>=◌}
+use Rattle.eleos_texts.specs.Fields.{is, is_blank, is_newline}
+use Rattle.eleos_texts.specs.Reasons.{at_line, ◌>>=◌}
+use Rattle.eleos_texts.specs.Texts.{ended, most_text}
 use Rattle.eleos_trace.specs.Seen.{nothing_seen, seen_after}
 use Rattle.eleos_trace.specs.Verbs.{line_of}
 use Rattle.eleos_trace.specs.WholeHeader.{header_of, header_lines, plan_of}
-
--- bytes of a text
-abbrev pub most_text : ℕ
-most_text = 16777216
-
--- what stands behind the end line: nothing
-abbrev pub ended : ℕ → List (List ℕ) → Result (List Line) Bad
-ended line ([] ∷ []) = Ok []
-ended line texts = Err (record { line = line; why = After })
 
 -- the commands of these lines, the first of which has this number, after what was seen before
 unfoldable pub commands_of : Header → ℕ → Seen → List (List ℕ) → Result (List Line) Bad
 commands_of header line seen [] = Err (record { line = line; why = Cut })
 commands_of header line seen (text ∷ []) = Err (record { line = line; why = Cut })
-commands_of header line seen (text ∷ next ∷ texts) = if is (codes "end") text then ended (line + 1) (next ∷ texts) else do
+commands_of header line seen (text ∷ next ∷ texts) = if is (codes "end") text then (ended (line + 1) (next ∷ texts) >>= λ _. Ok []) else do
   command ← at_line line (line_of header seen (slice_split is_blank text))
   lines ← commands_of header (line + 1) (seen_after seen command) (next ∷ texts)
   Ok (command ∷ lines)

@@ -2,9 +2,9 @@
 use Rattle.std.specs.Prelude.{ℕ, List, ◌&&◌, Result}
 use Rattle.eleos_trace.specs.declared.seen.Seen.{Seen}
 use Rattle.eleos_trace.specs.declared.word.Word.{Word}
-use Rattle.eleos_trace.specs.declared.why.Why.{Why}
-use Rattle.eleos_trace.specs.Fields.{is_numeral, is_name}
-use Rattle.eleos_trace.specs.Reasons.{with_two, with_three}
+use Rattle.eleos_texts.specs.declared.why.Why.{Why}
+use Rattle.eleos_texts.specs.Fields.{is_numeral, is_name}
+use Rattle.eleos_texts.specs.Reasons.{with_two, with_three}
 use Rattle.eleos_trace.specs.Frames.{is_move}
 use Rattle.eleos_trace.specs.RunForms.{of_other_kind}
 

@@ -2,10 +2,10 @@
 use Rattle.std.specs.Prelude.{ℕ, List, [], ◌∷◌, Bool, not, ◌==◌, ◌&&◌, ◌||◌, Result, codes, if◌then◌else◌}
 use Rattle.eleos_trace.specs.declared.seen.Seen.{Seen}
 use Rattle.eleos_trace.specs.declared.word.Word.{Word}
-use Rattle.eleos_trace.specs.declared.why.Why.{Why}
-use Rattle.eleos_trace.specs.declared.why.Why.TheVariants.{Form, Many, Actor}
-use Rattle.eleos_trace.specs.Fields.{is, is_numeral, is_name, is_hex}
-use Rattle.eleos_trace.specs.Reasons.{refusal, with_one, with_two, with_three}
+use Rattle.eleos_texts.specs.declared.why.Why.{Why}
+use Rattle.eleos_texts.specs.declared.why.Why.TheVariants.{Form, Many, Actor}
+use Rattle.eleos_texts.specs.Fields.{is, is_numeral, is_name, is_hex}
+use Rattle.eleos_texts.specs.Reasons.{refusal, with_one, with_two, with_three}
 use Rattle.eleos_trace.specs.Seen.{has_room}
 
 -- a numeral, or a minus before one that is not zero

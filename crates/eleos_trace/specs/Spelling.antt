@@ -2,41 +2,18 @@
 use Rattle.std.specs.Prelude.{ℕ, List, [], ◌∷◌, ◌++◌, Option, Some, None, codes}
 use Rattle.std.specs.List.{join_with_byte}
 use Rattle.std.specs.Fmt.{decimal}
-use Rattle.hex.specs.Hex.{encode_lower}
+use Rattle.eleos_texts.specs.Texts.{hex_text}
 use Rattle.eleos_trace.specs.declared.trace.Kind.{Kind}
 use Rattle.eleos_trace.specs.declared.trace.Kind.TheVariants.{Run, Replay}
-use Rattle.eleos_trace.specs.declared.why.Why.{Why}
-use Rattle.eleos_trace.specs.declared.why.Why.TheVariants.{TooLarge, Cut, After, Form, Many, Actor, Range, Name, Enclave, BadSize, NoSpace, Owner, Later}
 use Rattle.eleos_trace.specs.declared.word.Actor as actors
 use Rattle.eleos_trace.specs.declared.word.Actor.TheVariants.{Caller, Swapper, Balloon, Host}
 use Rattle.eleos_trace.specs.declared.word.Word.{Word}
 use Rattle.eleos_trace.specs.declared.word.Word.TheVariants.{Alloc, Free, Share, Read, Write, Tie, Untie, Fill, Evict, Move, Flip, SwapPlaces, Keep, Restore}
 
--- bytes in hex, in lower case, where a dash stands for none
-abbrev pub hex_text : List ℕ → List ℕ
-hex_text [] = codes "-"
-hex_text (b ∷ bs) = encode_lower (b ∷ bs)
-
 -- a kind of trace
 abbrev pub kind_text : Kind → List ℕ
 kind_text Run = codes "run"
 kind_text Replay = codes "replay"
-
--- a reason, as it is printed
-abbrev pub why_text : Why → List ℕ
-why_text TooLarge = codes "toolarge"
-why_text Cut = codes "cut"
-why_text After = codes "after"
-why_text Form = codes "form"
-why_text Many = codes "many"
-why_text Actor = codes "actor"
-why_text Range = codes "range"
-why_text Name = codes "name"
-why_text Enclave = codes "enclave"
-why_text BadSize = codes "badsize"
-why_text NoSpace = codes "nospace"
-why_text Owner = codes "owner"
-why_text Later = codes "later"
 
 -- an enclave by its number, where a dash stands for the pool
 abbrev pub owner_text : Option ℕ → List ℕ

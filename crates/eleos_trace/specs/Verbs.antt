@@ -7,10 +7,10 @@ use Rattle.eleos_trace.specs.declared.trace.Kind.TheVariants.{Run, Replay}
 use Rattle.eleos_trace.specs.declared.trace.Line.{Line}
 use Rattle.eleos_trace.specs.declared.word.Actor.{Actor}
 use Rattle.eleos_trace.specs.declared.word.Word.{Word}
-use Rattle.eleos_trace.specs.declared.why.Why.{Why}
-use Rattle.eleos_trace.specs.declared.why.Why.TheVariants.{Form}
-use Rattle.eleos_trace.specs.Fields.{is}
-use Rattle.eleos_trace.specs.Reasons.{with_two_and_more, ◌>>=◌}
+use Rattle.eleos_texts.specs.declared.why.Why.{Why}
+use Rattle.eleos_texts.specs.declared.why.Why.TheVariants.{Form}
+use Rattle.eleos_texts.specs.Fields.{is}
+use Rattle.eleos_texts.specs.Reasons.{with_two_and_more, ◌>>=◌}
 use Rattle.eleos_trace.specs.Actors.{actor_of}
 use Rattle.eleos_trace.specs.Commands.{alloc_of, free_of, share_of, read_of, write_of}
 use Rattle.eleos_trace.specs.Ties.{tie_of, untie_of}

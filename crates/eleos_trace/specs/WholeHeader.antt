@@ -6,13 +6,13 @@ use Rattle.eleos_base.specs.declared.plan.EnclavePlan.{EnclavePlan}
 use Rattle.eleos_base.specs.AesKey.{IsKeyLength}
 use Rattle.eleos_base.specs.Plans.{IsGood}
 use Rattle.eleos_trace.specs.declared.trace.Kind.{Kind}
-use Rattle.eleos_trace.specs.declared.why.Why.{Why}
-use Rattle.eleos_trace.specs.declared.why.Why.TheVariants.{Cut}
-use Rattle.eleos_trace.specs.declared.why.Bad.{Bad}
+use Rattle.eleos_texts.specs.declared.why.Why.{Why}
+use Rattle.eleos_texts.specs.declared.why.Why.TheVariants.{Cut}
+use Rattle.eleos_texts.specs.declared.why.Bad.{Bad}
 use Rattle.eleos_trace.specs.declared.header.Header.{Header}
 use Rattle.eleos_trace.specs.declared.header.NamedBlock.{NamedBlock}
-use Rattle.eleos_trace.specs.Fields.{is, is_blank}
-use Rattle.eleos_trace.specs.Reasons.{at_line, ◌>>=◌}
+use Rattle.eleos_texts.specs.Fields.{is, is_blank}
+use Rattle.eleos_texts.specs.Reasons.{at_line, ◌>>=◌}
 use Rattle.eleos_trace.specs.Homes.{enclave_line, caller_line}
 use Rattle.eleos_trace.specs.Blocks.{with_blocks, block_line, AreGoodBlocks}
 use Rattle.eleos_trace.specs.Header.{title_line, spare_line, wear_line, key_line, start_line}

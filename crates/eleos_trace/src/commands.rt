@@ -2,16 +2,16 @@
 ghost use Rattle.std.specs.Prelude.{◌≡◌, List, ℕ, map};
 ghost use Rattle.eleos_trace.specs.Commands.{alloc_of, name_of, free_of, share_of};
 ghost use Rattle.eleos_trace.specs.Commands.{read_of, write_of};
-ghost use Rattle.eleos_trace.specs.Reasons.{Reads};
+ghost use Rattle.eleos_texts.specs.Reasons.{Reads};
 
-use crate::counts::{one, three, two};
-use crate::fields::{hex_bytes, is_name, is_numeral, number_u32};
 use crate::header::Header;
 use crate::machines::is_caller;
 use crate::seen::Seen;
-use crate::why::{LineRefused, refused};
-use crate::{Actor, Why, Word};
+use crate::{Actor, Word};
 use eleos_base::Bytes;
+use eleos_texts::counts::{one, three, two};
+use eleos_texts::fields::{hex_bytes, is_name, is_numeral, number_u32};
+use eleos_texts::{LineRefused, Why, refused};
 use std::alloc::Global;
 
 /// Bytes of a write.

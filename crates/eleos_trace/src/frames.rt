@@ -3,17 +3,17 @@ ghost use Rattle.std.specs.Prelude.{◌≡◌, ◌≤◌, List, ℕ, map, length
 ghost use Rattle.eleos_base.specs.Plans.{IsGood};
 ghost use Rattle.eleos_trace.specs.Frames.{is_pool, is_move, owner_in};
 ghost use Rattle.eleos_trace.specs.Frames.{page_and_frame_of, fill_of, evict_of, move_of};
-ghost use Rattle.eleos_trace.specs.Reasons.{Reads};
+ghost use Rattle.eleos_texts.specs.Reasons.{Reads};
 
 use crate::actors::{is_balloon, is_swapper};
-use crate::counts::{three, two};
-use crate::fields::{is_numeral, number_below};
 use crate::header::Header;
 use crate::machines::{all_frames, all_pages, enclave_in};
 use crate::seen::Seen;
-use crate::why::{LineRefused, refused};
-use crate::{Actor, Why, Word};
+use crate::{Actor, Word};
 use eleos_base::EnclavePlan;
+use eleos_texts::counts::{three, two};
+use eleos_texts::fields::{is_numeral, number_below};
+use eleos_texts::{LineRefused, Why, refused};
 
 /// The page and the frame, which are in the machine.
 fn page_and_frame_of(

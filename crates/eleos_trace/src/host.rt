@@ -2,16 +2,16 @@
 ghost use Rattle.std.specs.Prelude.{◌≡◌, List, ℕ, map};
 ghost use Rattle.eleos_base.specs.Plans.{IsGood};
 ghost use Rattle.eleos_trace.specs.Host.{flip_of, swap_of, place_of, keep_of, restore_of};
-ghost use Rattle.eleos_trace.specs.Reasons.{Reads};
+ghost use Rattle.eleos_texts.specs.Reasons.{Reads};
 
 use crate::actors::is_host;
-use crate::counts::{one, two};
-use crate::fields::{is_numeral, number_below, number_up_to};
 use crate::header::Header;
 use crate::machines::places;
 use crate::seen::Seen;
-use crate::why::{LineRefused, refused};
-use crate::{Actor, Why, Word};
+use crate::{Actor, Word};
+use eleos_texts::counts::{one, two};
+use eleos_texts::fields::{is_numeral, number_below, number_up_to};
+use eleos_texts::{LineRefused, Why, refused};
 
 /// The last bit of a sub-page.
 const LAST_BIT: u64 = 8191;

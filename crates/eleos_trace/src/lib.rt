@@ -3,8 +3,6 @@
 
 mod actors;
 mod commands;
-pub mod counts;
-pub mod fields;
 mod frames;
 mod header;
 mod host;
@@ -15,17 +13,12 @@ mod reading;
 mod replay_forms;
 mod run_forms;
 mod seen;
-pub mod splits;
 mod ties;
 mod trace;
 mod verbs;
-mod why;
 mod word;
 
-pub use reading::{is_end, nothing_after, parse};
+pub use machines::places;
+pub use reading::parse;
 pub use trace::{Kind, Line, Trace};
-pub use why::{Bad, LineRefused, TraceRefused, Why, at_line, refused};
 pub use word::{Actor, Word};
-
-#[cfg(test)]
-mod tests;

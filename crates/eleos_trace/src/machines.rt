@@ -5,8 +5,8 @@ ghost use Rattle.eleos_trace.specs.Machines.{pages_of, frames_of, all_pages, all
 ghost use Rattle.eleos_trace.specs.Machines.{enclave_in, is_caller};
 
 use crate::Actor;
-use crate::fields::number_below;
 use eleos_base::{EnclavePlan, PAGE_BYTES, Plan, SUB_BYTES};
+use eleos_texts::fields::number_below;
 
 /// The pages of these enclaves.
 pub(crate) fn pages_of(enclaves: &[EnclavePlan]) -> u32
@@ -40,8 +40,8 @@ pub(crate) fn all_frames(plan: &Plan) -> u32
     frames_of(plan.enclaves.as_slice()) + plan.spare
 }
 
-/// Its sub-pages.
-pub(crate) fn places(plan: &Plan) -> u32
+/// Its sub-pages, each of which has a place of the host.
+pub fn places(plan: &Plan) -> u32
     requires { IsGood plan.now }
     ensures { result ≡ places plan.now }
 {

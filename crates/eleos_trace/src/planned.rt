@@ -4,21 +4,21 @@ ghost use Rattle.eleos_base.specs.Plans.{IsGood};
 ghost use Rattle.eleos_trace.specs.Planned.{is_step, is_own, point_of, of_pointer, copy_of, link_of};
 ghost use Rattle.eleos_trace.specs.Planned.{step_of, sread_of, swrite_of, sweep_of, balloon_of};
 ghost use Rattle.eleos_trace.specs.Planned.{call_of, flip_of, keep_of, swap_of};
-ghost use Rattle.eleos_trace.specs.Reasons.{Reads};
+ghost use Rattle.eleos_texts.specs.Reasons.{Reads};
 
 use crate::actors::{is_balloon, is_host, is_swapper};
 use crate::commands::MOST_BYTES;
-use crate::counts::{one, three, two};
-use crate::fields::{
-    hex_bytes, is_name, is_number, is_numeral, is_up_to, number_u32, number_up_to,
-};
 use crate::header::{Header, MOST_FRAMES};
 use crate::machines::{enclave_in, enclave_of, is_caller};
 use crate::run_forms::{is_call, is_signed};
 use crate::seen::Seen;
-use crate::why::{LineRefused, refused};
-use crate::{Actor, Why, Word, host};
+use crate::{Actor, Word, host};
 use eleos_base::Plan;
+use eleos_texts::counts::{one, three, two};
+use eleos_texts::fields::{
+    hex_bytes, is_name, is_number, is_numeral, is_up_to, number_u32, number_up_to,
+};
+use eleos_texts::{LineRefused, Why, refused};
 use std::alloc::Global;
 
 /// Bytes of a call, and of the room for its reply.

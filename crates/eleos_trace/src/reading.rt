@@ -1,22 +1,22 @@
 // A trace from its bytes.
-ghost use Rattle.std.specs.Prelude.{◌≡◌, ◌≤◌, ◌+◌, [], codes, length, map, IfOk};
+ghost use Rattle.std.specs.Prelude.{◌≡◌, ◌≤◌, ◌+◌, length, map, IfOk};
 ghost use Rattle.std.specs.List.{slice_split};
-ghost use Rattle.std.specs.Str.{bytes_eq};
-ghost use Rattle.eleos_trace.specs.Fields.{is_newline};
+ghost use Rattle.eleos_texts.specs.Fields.{is_newline};
 ghost use Rattle.eleos_trace.specs.WholeHeader.{header_lines, plan_of, IsGoodHeader};
-ghost use Rattle.eleos_trace.specs.Reasons.{Gives};
-ghost use Rattle.eleos_trace.specs.Reading.{trace_of, lines_of, commands_of, ended};
-ghost use Rattle.eleos_trace.specs.Reading.{trace_with, most_text};
+ghost use Rattle.eleos_texts.specs.Reasons.{Gives};
+ghost use Rattle.eleos_trace.specs.Reading.{trace_of, lines_of, commands_of};
+ghost use Rattle.eleos_texts.specs.Texts.{most_text};
+ghost use Rattle.eleos_trace.specs.Reading.{trace_with};
 ghost use Rattle.eleos_trace.specs.Kinds.{AreGiven, IsTrace};
 ghost use Rattle.eleos_trace.specs.Seen.{nothing_seen};
 
 use crate::header::{Header, NamedBlock, header_lines, header_of};
 use crate::seen::Seen;
-use crate::splits::{first_line, words_of};
 use crate::verbs::line_of;
-use crate::why::at_line;
-use crate::{Kind, Line, Trace, TraceRefused, Why};
+use crate::{Kind, Line, Trace};
 use eleos_base::{BlockPlan, Bytes, List};
+use eleos_texts::splits::{first_line, words_of};
+use eleos_texts::{TraceRefused, Why, at_line, is_end, nothing_after};
 use std::alloc::{AllocError, Global};
 
 /// Bytes of a text.
@@ -114,25 +114,4 @@ fn commands_of(alloc: Global, header: &Header, text: &[u8]) -> Result<Vec<Line>,
         line,
         why: Why::Cut,
     })
-}
-
-/// Whether the line ends the text.
-pub fn is_end(line: &[u8]) -> bool
-    ensures { result ≡ bytes_eq line.now (codes "end") }
-{
-    line == b"end".as_slice()
-}
-
-/// Whether the line behind the end is none.
-pub fn nothing_after(line: u32, after: &[u8]) -> Result<(), TraceRefused>
-    ensures { Gives (λ _. []) result (ended line (slice_split is_newline after.now)) }
-{
-    if after.is_empty() {
-        Ok(())
-    } else {
-        Err(TraceRefused::Bad {
-            line,
-            why: Why::After,
-        })
-    }
 }

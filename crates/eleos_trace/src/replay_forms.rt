@@ -1,15 +1,15 @@
 // Commands of kind replay: in a run nobody may give them.
 ghost use Rattle.std.specs.Prelude.{◌≡◌, List, ℕ, map};
 ghost use Rattle.eleos_trace.specs.ReplayForms.{tie_of, fill_of, move_of};
-ghost use Rattle.eleos_trace.specs.Reasons.{Reads};
+ghost use Rattle.eleos_texts.specs.Reasons.{Reads};
 
 use crate::Word;
-use crate::counts::{three, two};
-use crate::fields::{is_name, is_numeral};
 use crate::frames::is_move;
 use crate::run_forms::of_other_kind;
 use crate::seen::Seen;
-use crate::why::LineRefused;
+use eleos_texts::LineRefused;
+use eleos_texts::counts::{three, two};
+use eleos_texts::fields::{is_name, is_numeral};
 
 /// `tie NAME OFFSET` and `untie NAME OFFSET`
 pub(crate) fn tie_of(seen: &Seen, args: &[&[u8]]) -> Result<Word, LineRefused>

@@ -2,13 +2,13 @@
 ghost use Rattle.std.specs.Prelude.{◌≡◌, List, ℕ, map, IfOk};
 ghost use Rattle.eleos_trace.specs.RunForms.{is_signed, is_call, of_other_kind, point_of, link_of};
 ghost use Rattle.eleos_trace.specs.RunForms.{step_of, sread_of, swrite_of, balloon_of, call_of};
-ghost use Rattle.eleos_trace.specs.Reasons.{Reads};
+ghost use Rattle.eleos_texts.specs.Reasons.{Reads};
 
-use crate::counts::{one, three, two};
-use crate::fields::{is_hex, is_name, is_numeral};
+use crate::Word;
 use crate::seen::Seen;
-use crate::why::{LineRefused, refused};
-use crate::{Why, Word};
+use eleos_texts::counts::{one, three, two};
+use eleos_texts::fields::{is_hex, is_name, is_numeral};
+use eleos_texts::{LineRefused, Why, refused};
 use std::alloc::Global;
 
 /// Whether it is a number, with a minus before it where it is below zero.

@@ -1,16 +1,16 @@
 // Commands by which a caller links a page and lets it go.
 ghost use Rattle.std.specs.Prelude.{◌≡◌, List, ℕ, map};
 ghost use Rattle.eleos_trace.specs.Ties.{offset_of, tie_of, untie_of};
-ghost use Rattle.eleos_trace.specs.Reasons.{Reads};
+ghost use Rattle.eleos_texts.specs.Reasons.{Reads};
 
-use crate::counts::two;
-use crate::fields::{is_name, is_numeral, number_u32};
 use crate::header::Header;
 use crate::machines::is_caller;
 use crate::seen::Seen;
-use crate::why::{LineRefused, refused};
-use crate::{Actor, Why, Word};
+use crate::{Actor, Word};
 use eleos_base::Bytes;
+use eleos_texts::counts::two;
+use eleos_texts::fields::{is_name, is_numeral, number_u32};
+use eleos_texts::{LineRefused, Why, refused};
 use std::alloc::Global;
 
 /// The name, which is bound, and the offset.

@@ -5,19 +5,19 @@ ghost use Rattle.eleos_trace.specs.Verbs.{is_link, line_of, command_of};
 ghost use Rattle.eleos_trace.specs.Verbs.{frame_command_of, host_command_of, run_command_of};
 ghost use Rattle.eleos_trace.specs.Verbs.{planned_command_of, planned_frame_command_of};
 ghost use Rattle.eleos_trace.specs.Verbs.{replay_command_of, other_command_of};
-ghost use Rattle.eleos_trace.specs.Reasons.{Reads};
+ghost use Rattle.eleos_texts.specs.Reasons.{Reads};
 
 use crate::actors::actor_of;
 use crate::commands::{alloc_of, free_of, read_of, share_of, write_of};
-use crate::counts::two_and_more;
 use crate::frames::{evict_of, fill_of, move_of};
 use crate::header::Header;
 use crate::host::{flip_of, keep_of, restore_of, swap_of};
 use crate::run_forms::{balloon_of, call_of, link_of, point_of, sread_of, step_of, swrite_of};
 use crate::seen::Seen;
 use crate::ties::{tie_of, untie_of};
-use crate::why::{LineRefused, refused};
-use crate::{Actor, Kind, Line, Why, Word, planned, replay_forms};
+use crate::{Actor, Kind, Line, Word, planned, replay_forms};
+use eleos_texts::counts::two_and_more;
+use eleos_texts::{LineRefused, Why, refused};
 use std::alloc::Global;
 
 /// A line by its words.

@@ -2,21 +2,20 @@
 ghost use Rattle.std.specs.Prelude.{◌≡◌, ◌≤◌, ◌<◌, List, ℕ, IsTrue, map, length, IfOk};
 ghost use Rattle.std.specs.List.{slice_split};
 ghost use Rattle.eleos_base.specs.Plans.{IsGood};
-ghost use Rattle.eleos_trace.specs.Fields.{is_newline, is_numeral, number};
+ghost use Rattle.eleos_texts.specs.Fields.{is_newline, is_numeral, number};
 ghost use Rattle.eleos_trace.specs.Blocks.{has_name, owner_in, block_line, AreGoodBlocks};
 ghost use Rattle.eleos_trace.specs.WholeHeader.{blocks_of};
-ghost use Rattle.eleos_trace.specs.Reasons.{Gives, Reads};
+ghost use Rattle.eleos_texts.specs.Reasons.{Gives, Reads};
 
 use super::NamedBlock;
 use super::lines::begins;
 use super::rooms::has_space;
 use super::whole::next_words;
-use crate::counts::eight;
-use crate::fields::{is_name, is_number, is_numeral, number_up_to};
 use crate::machines::{enclave_in, enclave_of};
-use crate::why::{LineRefused, at_line, refused};
-use crate::{TraceRefused, Why};
 use eleos_base::{BlockPlan, Bytes, Plan};
+use eleos_texts::counts::eight;
+use eleos_texts::fields::{is_name, is_number, is_numeral, number_up_to};
+use eleos_texts::{LineRefused, TraceRefused, Why, at_line, refused};
 use std::alloc::Global;
 
 /// Header blocks of a machine.

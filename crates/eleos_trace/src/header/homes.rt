@@ -1,20 +1,19 @@
 // The lines of enclaves and of callers.
 ghost use Rattle.std.specs.Prelude.{◌≡◌, ◌≤◌, ◌<◌, List, ℕ, map, length, IfOk};
 ghost use Rattle.std.specs.List.{slice_split};
-ghost use Rattle.eleos_trace.specs.Fields.{is_newline};
+ghost use Rattle.eleos_texts.specs.Fields.{is_newline};
 ghost use Rattle.eleos_trace.specs.Homes.{enclave_line, caller_line};
 ghost use Rattle.eleos_trace.specs.Homes.{AreGoodEnclaves, AreGoodCallers};
 ghost use Rattle.eleos_trace.specs.WholeHeader.{enclaves_of, callers_of};
-ghost use Rattle.eleos_trace.specs.Reasons.{Gives, Reads};
+ghost use Rattle.eleos_texts.specs.Reasons.{Gives, Reads};
 
 use super::lines::is_one_of;
 use super::whole::next_words;
-use crate::counts::{four, six};
-use crate::fields::{is_number, is_numeral, number_up_to};
 use crate::machines::{enclave_in, frames_of, pages_of};
-use crate::why::{LineRefused, at_line, refused};
-use crate::{TraceRefused, Why};
 use eleos_base::EnclavePlan;
+use eleos_texts::counts::{four, six};
+use eleos_texts::fields::{is_number, is_numeral, number_up_to};
+use eleos_texts::{LineRefused, TraceRefused, Why, at_line, refused};
 use std::alloc::Global;
 
 /// Enclaves of a machine.

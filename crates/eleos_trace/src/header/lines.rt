@@ -1,18 +1,18 @@
 // The lines of which a header has one each.
 ghost use Rattle.std.specs.Prelude.{◌≡◌, ◌≤◌, List, ℕ, map};
 ghost use Rattle.eleos_trace.specs.Header.{title_line, spare_line, wear_line, key_line, start_line};
-ghost use Rattle.eleos_trace.specs.Header.{is_key_length};
+ghost use Rattle.eleos_texts.specs.Fields.{is_key_length};
 ghost use Rattle.eleos_trace.specs.WholeHeader.{begins, is_one_of};
 ghost use Rattle.eleos_trace.specs.Machines.{frames_of};
-ghost use Rattle.eleos_trace.specs.Reasons.{Reads};
+ghost use Rattle.eleos_texts.specs.Reasons.{Reads};
 
 use super::homes::MOST_FRAMES;
-use crate::counts::{one, three, two};
-use crate::fields::{hex_bytes, is_numeral, number_up_to};
+use crate::Kind;
 use crate::machines::frames_of;
-use crate::why::{LineRefused, refused};
-use crate::{Kind, Why};
 use eleos_base::{Bytes, EnclavePlan};
+use eleos_texts::counts::{one, three, two};
+use eleos_texts::fields::{hex_bytes, is_numeral, number_up_to};
+use eleos_texts::{LineRefused, Why, refused};
 use std::alloc::Global;
 
 /// How often a sub-page may be sealed.

@@ -2,20 +2,20 @@
 ghost use Rattle.std.specs.Prelude.{◌≡◌, ◌≤◌, ◌<◌, List, ℕ, map, length, IfOk};
 ghost use Rattle.std.specs.List.{slice_split};
 ghost use Rattle.eleos_base.specs.Plans.{IsGood};
-ghost use Rattle.eleos_trace.specs.Fields.{is_newline};
+ghost use Rattle.eleos_texts.specs.Fields.{is_newline};
 ghost use Rattle.eleos_trace.specs.Blocks.{AreGoodBlocks};
 ghost use Rattle.eleos_trace.specs.WholeHeader.{next_words, machine_of, machine_lines, header_of};
 ghost use Rattle.eleos_trace.specs.WholeHeader.{IsGoodHeader, header_lines};
-ghost use Rattle.eleos_trace.specs.Reasons.{Gives};
+ghost use Rattle.eleos_texts.specs.Reasons.{Gives};
 
 use super::Header;
 use super::blocks::blocks_of;
 use super::homes::{callers_of, enclaves_of};
 use super::lines::{key_line, spare_line, start_line, title_line, wear_line};
-use crate::splits::{first_line, words_of};
-use crate::why::at_line;
-use crate::{Kind, TraceRefused, Why};
+use crate::Kind;
 use eleos_base::{List, Plan};
+use eleos_texts::splits::{first_line, words_of};
+use eleos_texts::{TraceRefused, Why, at_line};
 use std::alloc::Global;
 
 /// The words of the next line, which has this number, and the text behind it.

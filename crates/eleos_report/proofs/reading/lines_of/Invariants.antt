@@ -1,6 +1,6 @@
 use Rattle.std.proofs.Common.{◌≡◌, ◌+◌, ◌≤◌, length}
 use Rattle.std.specs.List.{slice_split}
-use Rattle.eleos_trace.specs.Fields.{is_newline}
+use Rattle.eleos_texts.specs.Fields.{is_newline}
 use Rattle.eleos_report.specs.Reading.{lines_of}
 use Rattle.eleos_report.proofs.Steps.{with_front}
 use Rattle.eleos_report.proofs.reading.lines_of.Given as goal

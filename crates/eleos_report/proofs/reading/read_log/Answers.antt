@@ -1,5 +1,5 @@
 use Rattle.std.specs.List.{slice_split}
-use Rattle.eleos_trace.specs.Fields.{is_newline}
+use Rattle.eleos_texts.specs.Fields.{is_newline}
 use Rattle.eleos_report.proofs.ReadLines.{lines_read}
 use Rattle.eleos_report.proofs.reading.read_log.Goals as goal
 

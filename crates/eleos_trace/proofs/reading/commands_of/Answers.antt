@@ -5,7 +5,7 @@ use Rattle.eleos_trace.specs.WholeHeader.{plan_of}
 use Rattle.eleos_trace.specs.Kinds.{MayGiveIn}
 use Rattle.eleos_trace.proofs.Chosen.{line_ok}
 use Rattle.eleos_trace.proofs.Good.{All-push}
-use Rattle.eleos_trace.proofs.Items.{read_ok}
+use Rattle.eleos_texts.proofs.Answers.{read_ok}
 use Rattle.eleos_trace.proofs.Loop.{at_cut, at_end, at_more, at_bad, at_command}
 use Rattle.eleos_trace.proofs.reading.commands_of.Goals as goal
 

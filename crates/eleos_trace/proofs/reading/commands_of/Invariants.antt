@@ -1,7 +1,7 @@
 use Rattle.std.proofs.Common.{◌≡◌, ◌+◌, ◌≤◌, length}
 use Rattle.std.specs.Prelude.{All}
 use Rattle.std.specs.List.{slice_split}
-use Rattle.eleos_trace.specs.Fields.{is_newline}
+use Rattle.eleos_texts.specs.Fields.{is_newline}
 use Rattle.eleos_trace.specs.WholeHeader.{header_lines, plan_of}
 use Rattle.eleos_trace.specs.Reading.{commands_of}
 use Rattle.eleos_trace.specs.Kinds.{MayGiveIn}

@@ -1,6 +1,6 @@
 use Rattle.std.proofs.Common.{◌≡◌, ◌+◌, ◌≤◌, length, codes}
 use Rattle.std.specs.List.{slice_split}
-use Rattle.eleos_trace.specs.Fields.{is_newline}
+use Rattle.eleos_texts.specs.Fields.{is_newline}
 use Rattle.eleos_trace.specs.Blocks.{block_line, AreGoodBlocks}
 use Rattle.eleos_trace.specs.WholeHeader.{begins, items_of, blocks_of}
 use Rattle.eleos_trace.proofs.header.blocks.blocks_of.Given as goal

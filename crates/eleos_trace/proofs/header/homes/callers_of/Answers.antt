@@ -2,11 +2,12 @@ use Rattle.std.proofs.Common.{sym, ◌∙◌, arith, codes}
 use Rattle.std.proofs.lemmas.Result.{err_from_is_err_and}
 use Rattle.std.proofs.lemmas.List.{length_push}
 use Rattle.std.specs.List.{slice_split}
-use Rattle.eleos_trace.specs.Fields.{is_newline}
+use Rattle.eleos_texts.specs.Fields.{is_newline}
 use Rattle.eleos_trace.specs.Homes.{caller_line}
 use Rattle.eleos_trace.specs.WholeHeader.{is_one_of}
 use Rattle.eleos_trace.proofs.Good.{caller_ok}
-use Rattle.eleos_trace.proofs.Items.{read_ok, at_cut, at_stop, at_bad, at_item}
+use Rattle.eleos_texts.proofs.Answers.{read_ok}
+use Rattle.eleos_trace.proofs.Items.{at_cut, at_stop, at_bad, at_item}
 use Rattle.eleos_trace.proofs.header.homes.callers_of.Goals as goal
 
 pub returns-in_err-words-clause-given : goal.returns-in_err-words-clause-given

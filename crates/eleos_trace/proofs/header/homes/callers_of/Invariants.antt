@@ -1,6 +1,6 @@
 use Rattle.std.proofs.Common.{◌≡◌, ◌+◌, ◌≤◌, length, codes}
 use Rattle.std.specs.List.{slice_split}
-use Rattle.eleos_trace.specs.Fields.{is_newline}
+use Rattle.eleos_texts.specs.Fields.{is_newline}
 use Rattle.eleos_trace.specs.Homes.{caller_line, AreGoodCallers}
 use Rattle.eleos_trace.specs.WholeHeader.{is_one_of, items_of, callers_of}
 use Rattle.eleos_trace.proofs.header.homes.callers_of.Given as goal

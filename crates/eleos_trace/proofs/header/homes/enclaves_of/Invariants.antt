@@ -1,6 +1,6 @@
 use Rattle.std.proofs.Common.{◌≡◌, ◌+◌, ◌≤◌, length, codes}
 use Rattle.std.specs.List.{slice_split}
-use Rattle.eleos_trace.specs.Fields.{is_newline}
+use Rattle.eleos_texts.specs.Fields.{is_newline}
 use Rattle.eleos_trace.specs.Homes.{enclave_line, AreGoodEnclaves}
 use Rattle.eleos_trace.specs.WholeHeader.{is_one_of, items_of, enclaves_of}
 use Rattle.eleos_trace.proofs.header.homes.enclaves_of.Given as goal

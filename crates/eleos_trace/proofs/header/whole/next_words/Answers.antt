@@ -1,4 +1,4 @@
-use Rattle.eleos_trace.proofs.Texts.{next_words-split}
+use Rattle.eleos_trace.proofs.Words.{next_words-split}
 use Rattle.eleos_trace.proofs.header.whole.next_words.Goals as goal
 
 pub returns-clause-given : goal.returns-clause-given

@@ -1,0 +1,13 @@
+use Rattle.std.proofs.Common.{◌+◌, sym, arith, length, ◌∙◌}
+use Rattle.std.proofs.lemmas.Slice.{between_to_end}
+use Rattle.eleos_texts.specs.Fields.{is_newline}
+use Rattle.eleos_texts.proofs.Texts.{slice_split-whole, slice_split-first}
+use Rattle.eleos_texts.proofs.splits.first_line.Goals as goal
+
+pub returns-in_err-end-clause-parts : goal.returns-in_err-end-clause-parts
+returns-in_err-end-clause-parts c = rw c.from_residual.ensures (slice_split-whole is_newline c.args.text.now (sym c.newline_at.ensures ∙ c.in_err-end.was))
+
+pub returns-clause-parts : goal.returns-clause-parts
+returns-clause-parts c =
+    let first = slice_split-first is_newline c.args.text.now c.in_ok-end.end (sym c.newline_at.ensures ∙ c.in_ok-end.was) in
+    rw (between_to_end c.args.text.now (c.in_ok-end.end + 1) (length c.args.text.now) (omega arith)) first

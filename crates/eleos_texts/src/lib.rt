@@ -1,0 +1,12 @@
+//! Texts: their lines, words and fields, why one is refused, and pieces of text that are added.
+#![tactic(auto)]
+
+pub mod counts;
+mod ends;
+pub mod fields;
+pub mod printing;
+pub mod splits;
+mod why;
+
+pub use ends::{is_end, nothing_after};
+pub use why::{Bad, LineRefused, TraceRefused, Why, at_line, refused};

@@ -1,0 +1,32 @@
+// Lines of a text, and words of a line.
+ghost use Rattle.std.specs.Prelude.{◌≡◌, ◌<◌, List, ℕ, [], ◌∷◌, length, map};
+ghost use Rattle.std.specs.Prelude.{IfOk, MatchOption, IfSome};
+ghost use Rattle.std.specs.List.{slice_split, position};
+ghost use Rattle.eleos_texts.specs.Fields.{is_newline, is_blank};
+
+use std::alloc::{AllocError, Global};
+
+/// The first line, and what stands behind its newline.
+pub fn first_line(text: &[u8]) -> Option<(&[u8], &[u8])>
+    ensures parts { MatchOption result
+        (slice_split is_newline text.now ≡ text.now ∷ [])
+        (λ p. slice_split is_newline text.now ≡ p.0.now ∷ slice_split is_newline p.1.now) }
+    ensures shorter { IfSome result (λ p. length p.1.now < length text.now) }
+{
+    let end = newline_at(text)?;
+    Some((&text[..end], &text[end + 1..]))
+}
+
+fn newline_at(text: &[u8]) -> Option<usize>
+    ensures { result ≡ position is_newline text.now }
+{
+    text.iter().position(|c| *c == b'\n')
+}
+
+/// The words of a line.
+pub fn words_of(alloc: Global, line: &[u8]) -> Result<Vec<&[u8]>, AllocError>
+    ensures { IfOk result (λ words.
+        map (λ word. word.now) words.items ≡ slice_split is_blank line.now) }
+{
+    Ok(line.split(|c| *c == b' ').collect(alloc)?)
+}
