@@ -1,16 +1,12 @@
 //! The program: `eleos replay`, `eleos run` and `eleos gcm`.
 #![tactic(auto)]
 
-use eleos_base::{NoMemory, Status, StdSink, StdSource};
+use eleos_base::{Status, StdSink, StdSource};
 use eleos_host::{SharedHost, ToldHost};
 use eleos_run::Gate;
 use eleos_top::main_top;
-use std::alloc::Global;
 use std::process::ExitCode;
 use std::{env, io};
-
-/// Places of each host: one for each sub-page of the largest machine.
-const PLACES: u32 = 16_384;
 
 /// It lets each caller pass at once.
 struct OpenGate;
@@ -27,30 +23,22 @@ fn main(rt: HostRuntime) -> io::Result<ExitCode> {
     }
     let mut source = StdSource::new(rt.stdin());
     let mut sink = StdSink::new(rt.stdout());
-    let status = match hosts(alloc) {
-        Ok((mut told, shared)) => main_top(
-            &rt,
-            alloc,
-            &words,
-            &mut source,
-            &mut sink,
-            &mut told,
-            &&shared,
-            &OpenGate,
-        )
-        .status(),
-        Err(NoMemory) => Status::Memory,
-    };
+    // They have no place until a trace is read.
+    let mut told = ToldHost::new(alloc);
+    let mut shared = SharedHost::new(alloc);
+    let status = main_top(
+        &rt,
+        alloc,
+        &words,
+        &mut source,
+        &mut sink,
+        &mut told,
+        &mut shared,
+        &OpenGate,
+    )
+    .status();
     if status == Status::Usage {
         eprintln!(rt; "usage: eleos replay|run|gcm")?;
     }
     Ok(ExitCode::from(status.code()))
-}
-
-/// The host of a replay, and the host of a run.
-fn hosts(alloc: Global) -> Result<(ToldHost, SharedHost), NoMemory> {
-    Ok((
-        ToldHost::make(alloc, PLACES)?,
-        SharedHost::make(alloc, PLACES)?,
-    ))
 }

@@ -1,5 +1,5 @@
 -- The jobs of all callers, one after another.
-use Rattle.std.proofs.Common.{◌≡◌, ℕ, zero, suc, ◌+◌, ◌<◌, ◌≤◌, Bool, true, false, cond, List, [], ◌∷◌, ◌++◌, filter, length, map, get_or, vec_capacity, refl, sym, ap, ◌∙◌, subst, arith, length-append}
+use Rattle.std.proofs.Common.{◌≡◌, ℕ, zero, suc, ◌+◌, ◌<◌, ◌≤◌, Bool, true, false, cond, List, [], ◌∷◌, ◌++◌, filter, length, map, get_or, vec_capacity, refl, sym, ap, ◌∙◌, subst, arith, append-nil, length-append}
 use lib.ListN.{length-map}
 use Rattle.std.proofs.lemmas.List.{map-append}
 use Rattle.eleos_base.specs.declared.plan.Plan.{Plan}
@@ -9,7 +9,7 @@ use Rattle.eleos_machine.specs.Passes.{PassState}
 use Rattle.eleos_trace.specs.declared.trace.Line.{Line}
 use Rattle.eleos_trace.specs.Kinds.{IsRun}
 use Rattle.eleos_core.specs.Parts.{Part, Stamp}
-use Rattle.eleos_machine.specs.Machines.{IsMachine, Site}
+use Rattle.eleos_machine.specs.Machines.{IsMachine, Site, plan_at}
 use Rattle.eleos_plot.specs.declared.plot.Ground.{Ground}
 use Rattle.eleos_plot.specs.Terms.{core_terms}
 use Rattle.eleos_trace.specs.declared.trace.Trace.{Trace}
@@ -18,7 +18,16 @@ use Rattle.eleos_run.specs.declared.jobs.Job.{Job}
 use Rattle.eleos_run.specs.Callers.{AreDoneJobs, AreNewJobs, IsDoneJob, IsNewJob, lines_of}
 use Rattle.eleos_run.specs.Exchanges.{AreExchanged}
 use Rattle.eleos_run.specs.Jobs.{HasRun, IsReadyJob, commands_of, names_of}
-use Rattle.eleos_run.specs.Lines.{Made, Tells, commands_by, is_by, program}
+use Rattle.eleos_run.specs.Lines.{commands_by, is_by, program}
+use Rattle.eleos_run.specs.Programs.{Tells, TellsAll}
+use Rattle.eleos_run.specs.Table.{AnySaid, Ends, Gives, lines_for}
+use Rattle.eleos_base.specs.Plans.{enclave_of}
+use Rattle.eleos_run.specs.Told.{Made, line_of, made_in}
+use Rattle.eleos_run.proofs.LineCounts.{lines_one}
+use Rattle.eleos_report.specs.declared.line.LogLine.{LogLine}
+use Rattle.eleos_trace.specs.declared.word.Actor.{Actor}
+use Rattle.eleos_trace.specs.declared.word.Actor.TheVariants.{Caller}
+use Rattle.eleos_trace.specs.declared.word.Word.{Word}
 use Rattle.eleos_run.specs.declared.tasks.Task.{Task}
 use Rattle.eleos_run.specs.Tasks.{AllReady}
 use Rattle.eleos_run.specs.Names.{Names, opening_names}
@@ -29,6 +38,18 @@ module _ {P : Type 0} where
   new_at trace z who [] new k j inside = absurd (omega (arith, inside))
   new_at trace z who (i ∷ js) new zero j inside = new.0.ready
   new_at trace z who (i ∷ js) new (suc k) j inside = new_at trace z (who + 1) js new.1 k j (omega (arith, inside))
+
+-- nothing stands behind the last command
+ended : {home : ℕ} {who : Actor} {st : Names} {words : List Word} {lines : List LogLine} {made : List Made} {after : Names} → Tells (Gives AnySaid home) who st words lines made after → TellsAll (Gives AnySaid home) Ends who st words lines made
+ended {who = who} t = record {
+  told = t.told;
+  last = [];
+  after = _;
+  follows = t.follows;
+  ends = refl;
+  lines_are = t.lines_are ∙ ap (map (line_of who)) (sym (append-nil t.told));
+  made_are = t.made_are ∙ ap made_in (sym (append-nil t.told));
+}
 
 module _ {P : Type 0} (gave took : ℕ → List ℕ → Type 0) where
   -- a job that has run
@@ -41,9 +62,8 @@ module _ {P : Type 0} (gave took : ℕ → List ℕ → Type 0) where
         home = run.idle.own;
         number = run.told.goes.number ∙ number;
         turns = run.idle.turns;
-        once = run.once ∙ new.commands;
-        after = names_of j;
-        mine = subst (λ (q : (ℕ × Names) × List Made). Tells q.0.0 q.0.1 j.lines.items q.1 (names_of j)) (λ t. ((number t, new.names t), made t)) run.told.tells;
+        few = let few = run.few in let same = ap lines_for new.commands in omega (arith, few, same);
+        mine = subst (λ (q : ((ℕ × Names) × List Word) × List Made). TellsAll (Gives AnySaid (enclave_of (plan_at z) q.0.0.0)) Ends (Caller q.0.0.0) q.0.0.1 q.0.1 j.lines.items q.1) (λ t. (((number t, new.names t), new.commands t), made t)) (ended run.told.tells);
         exchanged = subst (AreExchanged gave took z j.pass.hand.seen) made run.told.exchanged;
       }
 
@@ -75,6 +95,7 @@ module _ {P : Type 0} where
       let most = run.lines.few in
       let left = ap (λ (h : HandState Stamp Part Ground). h.left) unused in
       let each = machine.each in
+      let one = lines_one (commands_of j.tasks.items) in
       record {
         ready = record {
           idle = record {
@@ -84,9 +105,9 @@ module _ {P : Type 0} where
           };
           ready = ready;
           short = omega (arith, long, same, few, most);
-          left = omega (arith, long, same, few, most, left, each);
+          left = omega (arith, long, same, few, most, left, each, one);
           empty = empty;
-          room = room;
+          room = omega (arith, room, one, long);
         };
         unused = unused;
         commands = commands;

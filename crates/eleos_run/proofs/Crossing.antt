@@ -1,5 +1,5 @@
 -- What is exchanged with the host for a command.
-use Rattle.std.proofs.Common.{◌≡◌, ℕ, Bool, true, false, ◌&&◌, cond, List, [], ◌∷◌, filter, length, map, Option, Some, None, option_map, refl, sym, ap, ◌∙◌, subst}
+use Rattle.std.proofs.Common.{◌≡◌, ℕ, Bool, true, false, ◌&&◌, cond, List, [], ◌∷◌, filter, length, take, map, refl, sym, ap, ◌∙◌, subst}
 use Rattle.std.specs.List.{AllByRecursion}
 use Rattle.eleos_base.specs.declared.memory.Addr.{Addr}
 use Rattle.eleos_base.specs.declared.memory.Op.{Op}
@@ -24,15 +24,16 @@ use Rattle.eleos_machine.specs.Machines.{Site, plan_at, seals_at}
 use Rattle.eleos_machine.specs.Passes.{PassState, plan_of}
 use Rattle.eleos_pages.specs.Crossed.{at_place, came}
 use Rattle.eleos_plot.specs.Terms.{core_terms}
-use Rattle.eleos_report.specs.declared.answer.Answer.{Answer}
 use Rattle.eleos_trace.specs.declared.word.Word.{Word}
 use Rattle.eleos_turn.proofs.Clients.{goes_same}
 use Rattle.eleos_run.specs.declared.answers.Spoken.{Spoken}
-use Rattle.eleos_run.specs.Calls.{op_of}
 use Rattle.eleos_run.specs.Exchanges.{AreExchanged, AreGiven, Exchanges, HasExchanged}
-use Rattle.eleos_run.specs.Lines.{Entries, Made, TellsOne}
+use Rattle.eleos_run.specs.Lines.{Entries}
 use Rattle.eleos_run.specs.Names.{Names}
-use Rattle.eleos_run.specs.Steps.{Speaks}
+use Rattle.eleos_run.specs.Steps.{AreOnBlocks, HasMadeOnBlocks, IsOnBlocks, Speaks}
+use Rattle.eleos_run.specs.Told.{Made, made_of}
+use Rattle.eleos_run.proofs.Meanings.{IsBlockWord, means_on}
+use Rattle.eleos_plot.specs.Histories.{history_of}
 use Rattle.eleos_run.proofs.Exchanging.{exchanged_last, exchanges_these}
 
 -- ---- entries that seal nothing
@@ -58,23 +59,6 @@ seals_nothing k past who (ops.Write at bytes) blocks reply quiet s = absurd quie
 
 -- ---- calls on blocks
 
-abbrev pub IsOnBlocks : Op → Type 0
-IsOnBlocks (ops.Read at n) = ⊥
-IsOnBlocks (ops.Write at bytes) = ⊥
-IsOnBlocks _ = Unit {0}
-
-abbrev pub AreOnBlocks : Option Op → Type 0
-AreOnBlocks None = Unit {0}
-AreOnBlocks (Some op) = IsOnBlocks op
-
-pub free_on_blocks : (found : Option Addr) → AreOnBlocks (option_map (λ at. ops.Free at) found)
-free_on_blocks None = tt
-free_on_blocks (Some at) = tt
-
-pub share_on_blocks : (found : Option Addr) → AreOnBlocks (option_map (λ at. ops.Share at) found)
-share_on_blocks None = tt
-share_on_blocks (Some at) = tt
-
 module _ (gave took : ℕ → List ℕ → Type 0) where
   none_given : (ss : List ℕ) → AreGiven gave took ss []
   none_given [] = tt
@@ -94,17 +78,19 @@ module _ (gave took : ℕ → List ℕ → Type 0) where
   block_exchanged k x past who (ops.Write at bytes) blocks reply on = absurd on
 
   module _ (z : Site) where
-    told_exchanged : (op : Option Op) (stamp : Option ℕ) (reply : Answer) (made : List Made) (h : Entries) → AreOnBlocks op → TellsOne op stamp reply made → AreExchanged gave took z h made
-    told_exchanged None stamp reply made h on t = subst (AreExchanged gave took z h) (sym t.2) tt
-    told_exchanged (Some op) stamp reply made h on t =
-        let e : Entry = t.0.1.entry in
-        let one = λ (past : History). subst (λ (v : events.Event). HasExchanged gave took (plan_at z) (seals_at z) past (entry e.who v e.blocks e.reply)) (sym t.2.event_is) (block_exchanged (plan_at z) (seals_at z) past e.who op e.blocks e.reply on) in
-        subst (AreExchanged gave took z h) (sym t.1) (one _, tt)
+    made_exchanged : (made : List Made) (h : Entries) → AreOnBlocks made → AreExchanged gave took z h made
+    made_exchanged [] h on = tt
+    made_exchanged (one ∷ made) h on = let e : Entry = one.1.entry in let op : Op = on.0.0 in
+        (subst (λ (v : events.Event). HasExchanged gave took (plan_at z) (seals_at z) (history_of (take one.0 h)) (entry e.who v e.blocks e.reply)) (sym on.0.1) (block_exchanged (plan_at z) (seals_at z) _ e.who op e.blocks e.reply on.0.2), made_exchanged made h on.1)
+
+    -- entries of calls on blocks
+    pub on_blocks_exchange : (s s' : PassState) → HasMadeOnBlocks s s' → Exchanges gave took z s s'
+    on_blocks_exchange s s' q = exchanges_these gave took z s s' q.made q.goes (made_exchanged q.made s'.hand.seen q.on)
 
     -- a command on a block
-    pub block_exchanges : (command : Word) (said : Spoken) (s s' : PassState) (names names' : Names) → AreOnBlocks (op_of names command) → Speaks command said s s' names names' → Exchanges gave took z s s'
-    block_exchanges command said s s' names names' on speaks =
-        exchanges_these gave took z s s' speaks.made speaks.has_made.goes (told_exchanged (op_of names command) said.stamp said.reply speaks.made s'.hand.seen on speaks.tells)
+    pub block_exchanges : (home : ℕ) (command : Word) (said : Spoken) (s s' : PassState) (names names' : Names) → IsBlockWord command → Speaks home command [] said s s' names names' → Exchanges gave took z s s'
+    block_exchanges home command said s s' names names' on speaks =
+        on_blocks_exchange s s' (record { made = made_of speaks.came; goes = speaks.has_made.goes; on = means_on names command speaks.came on speaks.gives.2 })
 
     -- nothing was done
     pub nothing_exchanges : (s : PassState) → Exchanges gave took z s s
@@ -130,14 +116,14 @@ module _ (gave took : ℕ → List ℕ → Type 0) where
 
 module _ {P : Type 0} (port : Ghosts P) (host : store.Ghosts P) where
   -- a read
-  pub read_exchanges : (s s' : PassState) (before : P) (at : Addr) (n : ℕ) (reply : Reply) (tap : TapState P) (z : Site) → s.hand.home ≡ z → HasAccessed port host s before at (ops.Read at n) reply s' tap → Exchanges port.gave port.took z s s'
+  pub read_exchanges : (s s' : PassState) (before : TapState P) (at : Addr) (n : ℕ) (reply : Reply) (tap : TapState P) (z : Site) → s.hand.home ≡ z → HasAccessed port host s before at (ops.Read at n) reply s' tap → Exchanges port.gave port.took z s s'
   read_exchanges s s' before at n reply tap z home a = let k : Plan = plan_of s in let past : History = a.entered.past in
       subst (λ (q : Site). Exchanges port.gave port.took q s s') home
       (entry_exchanges port.gave port.took s.hand.home s s' (access_stamp s (ops.Read at n) (came tap) reply) a.entered
       (record { given = given_at port.gave port.took (sub_of k at) (is_sealed k past) (is_present k past (sub_of k at)) (is_sealed k past (sub_of k at)) (came tap) refl a.crossed.gave; taken = a.crossed.took }))
 
   -- a write
-  pub write_exchanges : (s s' : PassState) (before : P) (at : Addr) (bytes : List ℕ) (reply : Reply) (tap : TapState P) (z : Site) → s.hand.home ≡ z → HasAccessed port host s before at (ops.Write at bytes) reply s' tap → Exchanges port.gave port.took z s s'
+  pub write_exchanges : (s s' : PassState) (before : TapState P) (at : Addr) (bytes : List ℕ) (reply : Reply) (tap : TapState P) (z : Site) → s.hand.home ≡ z → HasAccessed port host s before at (ops.Write at bytes) reply s' tap → Exchanges port.gave port.took z s s'
   write_exchanges s s' before at bytes reply tap z home a = let k : Plan = plan_of s in let past : History = a.entered.past in
       subst (λ (q : Site). Exchanges port.gave port.took q s s') home
       (entry_exchanges port.gave port.took s.hand.home s s' (access_stamp s (ops.Write at bytes) (came tap) reply) a.entered

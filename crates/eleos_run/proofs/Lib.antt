@@ -5,11 +5,13 @@ pub mod NameTables
 pub mod Speaking
 pub mod Exchanging
 pub mod Crossing
+pub mod Meanings
 pub mod TaskLists
 pub mod JobSteps
 pub mod CallerLists
 pub mod RunPasses
 pub mod Counting
+pub mod Actors
 pub mod Whole
 pub mod LineCounts
 pub mod PlanRooms

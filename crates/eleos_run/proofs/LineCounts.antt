@@ -2,18 +2,15 @@
 use Rattle.std.proofs.Common.{◌≡◌, ◌≢◌, ℕ, zero, suc, ◌+◌, ◌<◌, ◌≤◌, ◌==◌, Bool, true, false, cond, List, [], ◌∷◌, filter, length, map, refl, sym, ap, ◌∙◌, arith, length-append}
 use Rattle.std.proofs.lemmas.Bool.Decides.{nat_tests}
 use Rattle.eleos_machine.specs.Machines.{Site}
-use Rattle.eleos_plot.specs.Terms.{core_terms}
-use Rattle.eleos_report.specs.declared.line.LogLine.{LogLine}
-use Rattle.eleos_report.specs.declared.line.LogLine.TheVariants.{Said, End}
 use Rattle.eleos_trace.specs.declared.trace.Line.{Line}
 use Rattle.eleos_trace.specs.declared.trace.Trace.{Trace}
 use Rattle.eleos_trace.specs.declared.word.Actor as actors
 use Rattle.eleos_trace.specs.declared.word.Actor.TheVariants.{Caller, Swapper, Balloon, Host}
-use Rattle.eleos_turn.specs.Hands.{entries}
+use Rattle.eleos_trace.specs.declared.word.Word.{Word}
 use Rattle.eleos_run.specs.declared.jobs.Job.{Job}
 use Rattle.eleos_run.specs.Callers.{AreDoneJobs, lines_of}
-use Rattle.eleos_run.specs.Lines.{Made, Tells, commands_by, commands_in, is_by, names_with}
-use Rattle.eleos_run.specs.Names.{Names, opening_names}
+use Rattle.eleos_run.specs.Lines.{commands_by, is_by}
+use Rattle.eleos_run.specs.Table.{lines_for}
 
 -- the commands of the n callers with the numbers above a
 abbrev pub all_by : ℕ → ℕ → List Line → ℕ
@@ -59,16 +56,16 @@ all_few n [] = none 0 n where
   none a (suc m) = let r = none (a + 1) m in omega (arith, r)
 all_few n (line ∷ lines) = let one = most_by 0 n line lines in let rest = all_few n lines in omega (arith, one, rest)
 
-told_lines : (who : ℕ) (names : Names) (lines : List LogLine) (made : List Made) (after : Names) → Tells who names lines made after → length lines ≡ length (commands_in lines)
-told_lines who names [] made after t = refl
-told_lines who names (End count ∷ lines) made after t = absurd t
-told_lines who names (Said stamp actor command reply ∷ lines) made after t = let rest = told_lines who (names_with command t.0 names) lines t.1 after t.5 in omega (arith, rest)
+-- each command has one line
+pub lines_one : (words : List Word) → lines_for words ≡ length words
+lines_one [] = refl
+lines_one (word ∷ words) = let rest = lines_one words in omega (arith, rest)
 
 module _ {P : Type 0} (gave took : ℕ → List ℕ → Type 0) where
-  done_by : (trace : Trace) (z : Site) (a : ℕ) (js : List (Job P)) → AreDoneJobs gave took trace z a js → length (lines_of js) ≡ all_by a (length js) trace.lines
-  done_by trace z a [] done = refl
+  done_by : (trace : Trace) (z : Site) (a : ℕ) (js : List (Job P)) → AreDoneJobs gave took trace z a js → length (lines_of js) ≤ all_by a (length js) trace.lines
+  done_by trace z a [] done = omega arith
   done_by trace z a (j ∷ js) done = let rest = done_by trace z (a + 1) js done.1 in let both = length-append j.lines.items (lines_of js) in
-      let told = told_lines (a + 1) (opening_names trace (a + 1)) j.lines.items (entries core_terms j.pass.hand) done.0.after done.0.mine in let once = ap length done.0.once in omega (arith, rest, both, told, once)
+      let few = done.0.few in let one = lines_one (commands_by (a + 1) trace.lines) in omega (arith, rest, both, few, one)
 
   pub lines_few : (trace : Trace) (z : Site) (js : List (Job P)) → AreDoneJobs gave took trace z 0 js → length (lines_of js) ≤ length trace.lines
   lines_few trace z js done = let is = done_by trace z 0 js done in let few = all_few (length js) trace.lines in omega (arith, is, few)

@@ -2,6 +2,9 @@ pub mod Names
 pub mod NameTable
 pub mod Calls
 pub mod Lines
+pub mod Told
+pub mod Programs
+pub mod Table
 pub mod Steps
 pub mod Exchanges
 pub mod Tasks

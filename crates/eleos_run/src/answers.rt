@@ -12,7 +12,7 @@ ghost use Rattle.eleos_turn.specs.Hands.{entries};
 ghost use Rattle.eleos_run.specs.Calls.{answer_of};
 ghost use Rattle.eleos_run.specs.Exchanges.{Exchanges};
 ghost use Rattle.eleos_run.specs.NameTable.{has_room, names_in};
-ghost use Rattle.eleos_run.specs.Steps.{Speaks};
+ghost use Rattle.eleos_run.specs.Steps.{Speaks, home_of};
 ghost use Rattle.eleos_run.specs.Tasks.{KeepsRooms};
 
 use crate::names::NameTable;
@@ -68,7 +68,7 @@ pub(crate) fn answer_alloc<S: Sealer, R: Wait>(
 ) -> Spoken
     requires can { CanCall machine.now pass.old }
     requires room { IsTrue (has_room names.old.rooms.entries name.now) }
-    ensures speaks { Speaks (words.Alloc name.now bytes) result pass.old pass.new
+    ensures speaks { Speaks (home_of machine.now pass.old) (words.Alloc name.now bytes) [] result pass.old pass.new
         (names_in names.old.rooms.entries) (names_in names.new.rooms.entries) }
     ensures rooms { KeepsRooms names.old.rooms.entries names.new.rooms.entries }
 {
@@ -91,7 +91,7 @@ pub(crate) fn answer_free<S: Sealer, R: Wait>(
     name: &[u8],
 ) -> Spoken
     requires can { CanCall machine.now pass.old }
-    ensures { Speaks (words.Free name.now) result pass.old pass.new
+    ensures { Speaks (home_of machine.now pass.old) (words.Free name.now) [] result pass.old pass.new
         (names_in names.now.rooms.entries) (names_in names.now.rooms.entries) }
 {
     let Some(at) = names.address_of(name) else {
@@ -110,7 +110,7 @@ pub(crate) fn answer_share<S: Sealer, R: Wait>(
     name: &[u8],
 ) -> Spoken
     requires can { CanCall machine.now pass.old }
-    ensures { Speaks (words.Share name.now) result pass.old pass.new
+    ensures { Speaks (home_of machine.now pass.old) (words.Share name.now) [] result pass.old pass.new
         (names_in names.now.rooms.entries) (names_in names.now.rooms.entries) }
 {
     let Some(at) = names.address_of(name) else {
@@ -146,7 +146,7 @@ pub(crate) fn answer_read<S: Sealer, P: HostPort, R: Wait>(
     requires can { CanCall machine.now pass.old }
     requires empty { room.items ≡ [] }
     requires room { MOST_TEXT ≤ vec_capacity room }
-    ensures speaks { Speaks (words.Read name.now offset len) result pass.old pass.new
+    ensures speaks { Speaks (home_of machine.now pass.old) (words.Read name.now offset len) [] result pass.old pass.new
         (names_in names.now.rooms.entries) (names_in names.now.rooms.entries) }
     ensures exchanged { Exchanges P.gave P.took machine.now pass.old pass.new }
 {
@@ -193,7 +193,7 @@ pub(crate) fn answer_write<S: Sealer, P: HostPort, R: Wait>(
     requires can { CanCall machine.now pass.old }
     requires bytes { length bytes.now ≤ 2048 }
     requires room { MOST_TEXT ≤ vec_capacity room }
-    ensures speaks { Speaks (words.Write name.now offset bytes.now) result pass.old pass.new
+    ensures speaks { Speaks (home_of machine.now pass.old) (words.Write name.now offset bytes.now) [] result pass.old pass.new
         (names_in names.now.rooms.entries) (names_in names.now.rooms.entries) }
     ensures exchanged { Exchanges P.gave P.took machine.now pass.old pass.new }
 {

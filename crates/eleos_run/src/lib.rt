@@ -17,6 +17,3 @@ mod threads;
 
 pub use gate::Gate;
 pub use runs::{RunDone, run};
-
-#[cfg(test)]
-mod tests;

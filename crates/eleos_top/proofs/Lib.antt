@@ -4,11 +4,9 @@ pub mod Entered
 pub mod HeaderBlocks
 pub mod Inputs
 pub mod Maps
-pub mod Opened
 pub mod Readers
 pub mod Refusing
 pub mod LinesSaid
 pub mod RunTexts
 pub mod Tampering
-pub mod Vectors
 pub mod Within

@@ -1,5 +1,5 @@
 -- A replay that goes on by one more line.
-use Rattle.std.proofs.Common.{◌≡◌, ◌⊎◌, inl, inr, ℕ, suc, ◌+◌, List, [], ◌∷◌, ◌++◌, length, filter, Bool, true, false, if◌then◌else◌, Option, Some, None, IfSome, refl, sym, ◌∙◌, ap, subst, append-nil, length-append, arith}
+use Rattle.std.proofs.Common.{◌≡◌, inl, inr, ℕ, suc, ◌+◌, List, [], ◌∷◌, ◌++◌, length, filter, Bool, true, false, if◌then◌else◌, Option, Some, None, IfSome, refl, sym, ◌∙◌, ap, subst, append-nil, arith}
 use Rattle.std.proofs.lemmas.Grind.{flat_map-append}
 use Rattle.eleos_base.specs.declared.plan.Plan.{Plan}
 use Rattle.eleos_core.specs.Laws.{OfEveryRun, RunsPlain}
@@ -10,12 +10,13 @@ use Rattle.eleos_host.specs.Stores.{Store}
 use Rattle.eleos_trace.specs.declared.trace.Line.{Line}
 use Rattle.eleos_trace.specs.declared.trace.Trace.{Trace}
 use Rattle.eleos_top.specs.declared.answer.Answer.{Answer}
-use Rattle.eleos_top.specs.declared.answer.Answer.TheVariants.{Skipped, Entered, Refused, Acted}
 use Rattle.eleos_top.specs.declared.meanings.Meaning.{Meaning}
 use Rattle.eleos_top.specs.declared.meanings.Meaning.TheVariants.{Nameless, Happens, Offends, Acts}
 use Rattle.eleos_top.specs.declared.sessions.Session.{Session}
-use Rattle.eleos_top.specs.Log.{Said, end_text, entries, is_entry, lines_text, log_text, said_text}
-use Rattle.eleos_top.specs.Replays.{Gets, IsLogFrom, IsLogOf, Replays, opening_scene}
+use Rattle.eleos_report.specs.declared.line.LogLine.TheVariants.{End}
+use Rattle.eleos_report.specs.Log.{line_text}
+use Rattle.eleos_top.specs.Log.{Said, entries, is_entry, lines_text, said_text}
+use Rattle.eleos_top.specs.Replays.{Gets, IsLogOver, Replays}
 use Rattle.eleos_top.specs.Scenes.{Places, Scene, meaning, opening_places}
 use Rattle.eleos_top.specs.Sessions.{Answered, AlwaysGoesOn, GoesOn, StandsAfter, scene_of}
 
@@ -137,7 +138,7 @@ module _ (k : Plan) (x : Seals) where
 -- after the last line: the log
 pub log_of_all : (trace : Trace) (told now : Option Store) (session : Session) (text text' : List ℕ) → IsGood trace.plan → OfEveryRun RunsPlain
     → IsReplayed trace.plan (seals_by trace.key) told (opening_places trace) trace.lines now session text
-    → text' ≡ text ++ end_text session.stamps → IsLogOf told trace text'
+    → text' ≡ text ++ line_text (End session.stamps) → IsLogOver told now trace text'
 log_of_all trace told now session text text' good law is text_is = by told is.said
   where
     k : Plan
@@ -150,12 +151,13 @@ log_of_all trace told now session text text' good law is text_is = by told is.sa
         → IfSome t (λ store. (said : List Said) × (store' : Store) × (now ≡ Some store')
         × Replays k x trace.lines (record { past = []; store = store; places = opening_places trace }) said (scene_of is.past store' session)
         × (text ≡ lines_text said) × (length is.past ≡ entries said))
-        → IsLogOf t trace text'
+        → IsLogOver t now trace text'
     by None s = tt
     by (Some store) (said, store', now_is, replays, so_far, count) = record {
       lines = said;
       last = scene_of is.past store' session;
       replayed = replays;
-      printed = text_is ∙ (λ i. so_far i ++ end_text ((is.stands.stamps ∙ count) i));
+      left = now_is;
+      printed = text_is ∙ (λ i. so_far i ++ line_text (End ((is.stands.stamps ∙ count) i)));
       one_run = law k trace.key is.past (record { good = good; legal = is.stands.run });
     }

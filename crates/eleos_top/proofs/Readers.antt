@@ -1,17 +1,18 @@
 -- What a reader refuses of the bytes of a source.
 use Rattle.std.proofs.Common.{◌≡◌, ℕ, ◌<◌, List, length, Option, Some, None, IfSome, Result, Err, false, refl, sym, ◌∙◌, ap, subst, nat_le, arith}
 use Rattle.std.proofs.lemmas.Bool.Decides.{nat_tests}
-use Rattle.eleos_trace.specs.Reading.{most_text, trace_of}
-use Rattle.eleos_trace.specs.Reasons.{Fails}
+use Rattle.eleos_texts.specs.Texts.{most_text}
+use Rattle.eleos_trace.specs.Reading.{trace_of}
+use Rattle.eleos_texts.specs.Reasons.{Fails}
 use Rattle.eleos_trace.specs.declared.trace.Kind.{Kind}
-use Rattle.eleos_trace.specs.declared.why.Bad.{Bad}
-use Rattle.eleos_trace.specs.declared.why.Why.{Why}
-use Rattle.eleos_trace.specs.declared.why.Why.TheVariants.{TooLarge}
-use Rattle.eleos_trace.specs.declared.why.TraceRefused.{TraceRefused}
-use Rattle.eleos_trace.specs.declared.why.TraceRefused.TheVariants as refused
+use Rattle.eleos_texts.specs.declared.why.Bad.{Bad}
+use Rattle.eleos_texts.specs.declared.why.Why.{Why}
+use Rattle.eleos_texts.specs.declared.why.Why.TheVariants.{TooLarge}
+use Rattle.eleos_texts.specs.declared.why.TraceRefused.{TraceRefused}
+use Rattle.eleos_texts.specs.declared.why.TraceRefused.TheVariants as refused
 use Rattle.eleos_top.specs.declared.input.InputError.{InputError}
 use Rattle.eleos_top.specs.declared.input.InputError.TheVariants as refusals
-use Rattle.eleos_top.specs.GcmVectors.{vectors_in}
+use Rattle.eleos_vectors.specs.Vectors.{vectors_in}
 
 not_le : (a b : ℕ) → b < a → nat_le a b ≡ false
 not_le a b lt = grind (arith, nat_tests)

@@ -3,7 +3,7 @@ use Rattle.std.proofs.Common.{◌≡◌, ◌⊎◌, inl, inr, ℕ, List, Option,
 use Rattle.std.specs.Io.KnownBytes.{Keeps}
 use Rattle.eleos_base.specs.declared.status.Status.{Status}
 use Rattle.eleos_base.specs.declared.status.Status.TheVariants.{Refused, Memory}
-use Rattle.eleos_trace.specs.declared.why.Bad.{Bad}
+use Rattle.eleos_texts.specs.declared.why.Bad.{Bad}
 use Rattle.eleos_top.specs.Outcome.{PutsBy, PutsFront, IsRefusal, refused_text}
 
 module _ {A : Type 0} (read : List ℕ → Result A Bad) (IsTextOf : A → List ℕ → Type 0) (bad : Bad) (old new : Option (List ℕ)) (before now : ℕ) where

@@ -2,7 +2,7 @@
 use Rattle.std.specs.Prelude.{◌≡◌, ℕ, List, Ok, Err}
 use Rattle.eleos_trace.specs.declared.trace.Kind.{Kind}
 use Rattle.eleos_trace.specs.declared.trace.Trace.{Trace}
-use Rattle.eleos_trace.specs.declared.why.Bad.{Bad}
+use Rattle.eleos_texts.specs.declared.why.Bad.{Bad}
 use Rattle.eleos_trace.specs.Reading.{trace_of}
 
 -- the input spells this trace of this kind

@@ -1,6 +1,4 @@
 pub mod Addresses
-pub mod GcmAnswers
-pub mod GcmVectors
 pub mod Input
 pub mod Log
 pub mod MainEnds

@@ -5,8 +5,8 @@ use Rattle.std.specs.Io.KnownBytes.{Appends, Keeps}
 use Rattle.eleos_base.specs.declared.status.Status.{Status}
 use Rattle.eleos_base.specs.declared.status.Status.TheVariants.{Done, NotLegal, Usage, Refused, ReadFault, WriteFault, Memory}
 use Rattle.eleos_base.specs.Outside.{HasRisen}
-use Rattle.eleos_trace.specs.declared.why.Bad.{Bad}
-use Rattle.eleos_trace.specs.Spelling.{why_text}
+use Rattle.eleos_texts.specs.declared.why.Bad.{Bad}
+use Rattle.eleos_texts.specs.Texts.{why_text}
 
 -- the line that is put for an input that is refused: `refused LINE REASON`
 abbrev pub refused_text : Bad → List ℕ

@@ -1,5 +1,5 @@
 -- A replay: the lines that the machine's step and a host with these blocks give a trace, one command after another.
-use Rattle.std.specs.Prelude.{◌≡◌, ◌⊎◌, ℕ, List, [], ◌∷◌, length, map, take, fold, Option, IfSome}
+use Rattle.std.specs.Prelude.{◌≡◌, ◌⊎◌, ℕ, List, [], ◌∷◌, length, map, take, fold, Option, Some, IfSome, option_map}
 use Rattle.eleos_base.specs.declared.plan.Plan.{Plan}
 use Rattle.eleos_core.specs.declared.event.Entry.{Entry}
 use Rattle.eleos_core.specs.declared.event.Event.{Event}
@@ -8,7 +8,8 @@ use Rattle.eleos_core.specs.Laws.{RunsPlain}
 use Rattle.eleos_core.specs.Legal.{CoreStep}
 use Rattle.eleos_core.specs.Seals.{Seals, seals_by}
 use Rattle.eleos_core.specs.State.{places}
-use Rattle.eleos_host.specs.Stores.{Store, get_from, put_to}
+use Rattle.eleos_host.specs.Stores.{Store, get_from, put_to, with_room}
+use Rattle.eleos_trace.specs.Machines as machines
 use Rattle.eleos_trace.specs.declared.trace.Line.{Line}
 use Rattle.eleos_trace.specs.declared.trace.Trace.{Trace}
 use Rattle.eleos_top.specs.declared.answer.Answer.{Answer}
@@ -72,15 +73,20 @@ module _ (k : Plan) (x : Seals) where
 abbrev pub opening_scene : Trace → Store → Scene
 opening_scene trace store = record { past = []; store = store; places = opening_places trace }
 
--- the text is the log of a replay of the trace over a host that has this
-pub record IsLogFrom (store : Store) (trace : Trace) (text : List ℕ) : Type 0 where
+-- the text is the log of a replay of the trace over a host that has this, and afterwards the host has what the replay left there
+pub record IsLogFrom (store : Store) (after : Option Store) (trace : Trace) (text : List ℕ) : Type 0 where
   pub lines : List Said
   pub last : Scene
   pub replayed : Replays trace.plan (seals_by trace.key) trace.lines (opening_scene trace store) lines last
   pub printed : text ≡ log_text lines
+  pub left : after ≡ Some last.store
   -- where no altered or replaced block passed, its calls are one run of plain memory
   pub one_run : RunsPlain trace.plan trace.key last.past
 
 -- it is, where the host tells what it has
-abbrev pub IsLogOf : Option Store → Trace → List ℕ → Type 0
-IsLogOf told trace text = IfSome told (λ store. IsLogFrom store trace text)
+abbrev pub IsLogOver : Option Store → Option Store → Trace → List ℕ → Type 0
+IsLogOver told after trace text = IfSome told (λ store. IsLogFrom store after trace text)
+
+-- it is, once the host has at least the places of the trace
+abbrev pub IsLogOf : Option Store → Option Store → Trace → List ℕ → Type 0
+IsLogOf told after trace text = IsLogOver (option_map (with_room (machines.places trace.plan)) told) after trace text

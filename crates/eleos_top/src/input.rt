@@ -1,13 +1,14 @@
 // The input, with what it means.
 ghost use Rattle.std.specs.Prelude.{◌≡◌, IfOk, IsErrOf, IfSome};
 ghost use Rattle.eleos_base.specs.Outside.{HasRisen};
-ghost use Rattle.eleos_trace.specs.declared.why.Bad.{Bad};
+ghost use Rattle.eleos_texts.specs.declared.why.Bad.{Bad};
 ghost use Rattle.eleos_trace.specs.Kinds.{IsTrace};
 ghost use Rattle.eleos_top.specs.Input.{TellsTrace, TellsBad};
 
 use crate::streams::{ReadError, read_all};
 use eleos_base::Source;
-use eleos_trace::{Bad, Kind, Trace, TraceRefused, Why, parse};
+use eleos_texts::{Bad, TraceRefused, Why};
+use eleos_trace::{Kind, Trace, parse};
 use std::alloc::Global;
 
 /// Why there is no trace.

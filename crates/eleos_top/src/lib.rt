@@ -10,21 +10,15 @@ mod offsets;
 mod picking;
 mod places;
 mod replaying;
-mod replies;
 mod running;
 mod said;
 mod scenes;
 mod sessions;
 mod streams;
-mod text;
 mod top;
 mod unties;
-mod words;
 
 pub use gcm::gcm_top;
 pub use picking::{MainEnd, main_top};
 pub use replaying::replay_top;
 pub use running::{RunEnd, run_top};
-
-#[cfg(test)]
-mod tests;

@@ -4,8 +4,8 @@ ghost use Rattle.std.specs.Io.KnownBytes.{Keeps};
 ghost use Rattle.eleos_run.specs.Runs.{IsRunOf};
 ghost use Rattle.eleos_trace.specs.declared.trace.Kind.TheVariants.{Replay};
 ghost use Rattle.eleos_trace.specs.Reading.{trace_of};
-ghost use Rattle.eleos_top.specs.GcmAnswers.{AnswersVectors};
-ghost use Rattle.eleos_top.specs.GcmVectors.{vectors_in};
+ghost use Rattle.eleos_vectors.specs.Answers.{AnswersVectors};
+ghost use Rattle.eleos_vectors.specs.Vectors.{vectors_in};
 ghost use Rattle.eleos_top.specs.MainEnds.{IsPlainEnd, IsRunEnd, status_of};
 ghost use Rattle.eleos_top.specs.Outcome.{EndsBy, first_of};
 ghost use Rattle.eleos_top.specs.Replays.{IsLogOf};
@@ -16,7 +16,7 @@ use crate::replaying::replay_top;
 use crate::running::{RunEnd, run_top};
 use crate::top::is_word;
 use eleos_base::{Sink, Source, Status};
-use eleos_host::{HostHand, HostPort, HostSpace};
+use eleos_host::{HostHand, HostOpener, HostPort, HostRoom};
 use eleos_run::Gate;
 use std::alloc::Global;
 use std::sync::Wait;
@@ -49,8 +49,8 @@ pub fn main_top<
     R: Threads + Wait + Sync,
     S: Source,
     K: Sink,
-    P: HostPort + HostHand,
-    H: HostSpace + Sync,
+    P: HostPort + HostHand + HostRoom,
+    H: HostOpener,
     G: Gate + Sync,
 >(
     rt: &R,
@@ -59,16 +59,17 @@ pub fn main_top<
     source: &mut S,
     sink: &mut K,
     told: &mut P,
-    host: &H,
+    host: H,
     gate: &G,
 ) -> MainEnd
     ensures run { first_of (map (λ word. string_bytes word) words.now) ≡ Some (codes "run")
-        → IsRunEnd (λ end. RunEndsBy (IsRunOf H.Port.gave H.Port.took)
+        → IsRunEnd (λ end. RunEndsBy (IsRunOf H.Space.Port.gave H.Space.Port.took)
         (map (λ word. string_bytes word) words.now) end
         (S.left source.old) (K.got sink.old) (K.got sink.new)
         (S.faults source.old) (S.faults source.new) (K.faults sink.old) (K.faults sink.new)) result }
     ensures replay { first_of (map (λ word. string_bytes word) words.now) ≡ Some (codes "replay")
-        → IsPlainEnd (λ status. EndsBy (trace_of Replay) (IsLogOf (P.store told.old)) (codes "replay")
+        → IsPlainEnd (λ status. EndsBy (trace_of Replay)
+        (IsLogOf (P.store told.old) (P.store told.new)) (codes "replay")
         (map (λ word. string_bytes word) words.now) status
         (S.left source.old) (K.got sink.old) (K.got sink.new)
         (S.faults source.old) (S.faults source.new) (K.faults sink.old) (K.faults sink.new)) result }

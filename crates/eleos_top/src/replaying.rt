@@ -8,32 +8,35 @@ ghost use Rattle.eleos_top.specs.Outcome.{PutsBy};
 ghost use Rattle.eleos_top.specs.Replays.{IsLogOf};
 
 use crate::input::{InputError, trace_in};
-use crate::said::push_said;
+use crate::said::push_answered;
 use crate::sessions::Session;
 use crate::streams::put_lines;
-use crate::text::push_end;
 use crate::top::{is_only, refuse};
 use eleos_base::{NoMemory, Sink, Source, Status};
 use eleos_core::laws::calls_run_plain;
-use eleos_host::{HostHand, HostPort};
-use eleos_trace::{Kind, Trace};
+use eleos_host::{HostHand, HostPort, HostRoom};
+use eleos_report::push_end;
+use eleos_trace::{Kind, Trace, places};
 use std::alloc::Global;
 
 /// Replays a trace over a host: reads it, answers its commands and puts the log.
 ///
+/// First the host gets room for the trace's places, so that no command wants memory there.
+///
 /// With status 0 the bytes put are the log of the trace, by what the host had before: each command
 /// that became an entry is legal by the machine's step over the blocks of the host, and where no
-/// altered or replaced block passed, the calls are one run of plain memory. With another status
-/// nothing is put, the line that refuses the input, or a front.
-pub fn replay_top<S: Source, K: Sink, P: HostPort + HostHand>(
+/// altered or replaced block passed, the calls are one run of plain memory. The host then has what the
+/// commands left there. With another status nothing is put, the line that refuses the input, or a front.
+pub fn replay_top<S: Source, K: Sink, P: HostPort + HostHand + HostRoom>(
     alloc: Global,
     words: &[String],
     source: &mut S,
     sink: &mut K,
     host: &mut P,
 ) -> Status
-    ensures puts { PutsBy (trace_of Replay) (IsLogOf (P.store host.old)) result (S.left source.old)
-        (K.got sink.old) (K.got sink.new) (K.faults sink.old) (K.faults sink.new) }
+    ensures puts { PutsBy (trace_of Replay) (IsLogOf (P.store host.old) (P.store host.new)) result
+        (S.left source.old) (K.got sink.old) (K.got sink.new)
+        (K.faults sink.old) (K.faults sink.new) }
     ensures usage { (result ≡ Status.Usage)
         ↔ (map (λ word. string_bytes word) words.now ≢ codes "replay" ∷ []) }
     ensures read_fault { result ≡ Status.ReadFault
@@ -61,20 +64,22 @@ pub fn replay_top<S: Source, K: Sink, P: HostPort + HostHand>(
 }
 
 /// The log of a trace over a host.
-fn replay<P: HostPort + HostHand>(
+fn replay<P: HostPort + HostHand + HostRoom>(
     alloc: Global,
     trace: &Trace,
     host: &mut P,
 ) -> Result<Vec<u8>, NoMemory>
     requires { IsReplay trace.now }
-    ensures { IfOk result (λ text. IsLogOf (P.store host.old) trace.now text.items) }
+    ensures { IfOk result (λ text.
+        IsLogOf (P.store host.old) (P.store host.new) trace.now text.items) }
 {
     calls_run_plain();
+    host.make_room(places(&trace.plan))?;
     let mut session = Session::open(alloc, trace)?;
     let mut text = Vec::new(alloc);
     for line in trace.lines.as_slice() {
         let answer = session.answer(alloc, host, &trace.plan, line)?;
-        push_said(alloc, &mut text, line, &answer)?;
+        push_answered(alloc, &mut text, line, answer)?;
     }
     push_end(alloc, &mut text, session.stamps())?;
     Ok(text)

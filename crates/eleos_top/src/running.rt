@@ -14,11 +14,11 @@ use crate::streams::put_lines;
 use crate::top::{is_only, refuse};
 use eleos_base::{List, NoMemory, Sink, Source, Status};
 use eleos_core::laws::nonces_are_fresh;
-use eleos_host::HostSpace;
+use eleos_host::HostOpener;
 use eleos_machine::Pass;
 use eleos_report::{LogLine, push_line};
 use eleos_run::{Gate, run};
-use eleos_trace::Kind;
+use eleos_trace::{Kind, places};
 use std::alloc::Global;
 use std::sync::Wait;
 use std::thread::Threads;
@@ -39,18 +39,21 @@ pub struct RunEnd {
 /// each entry of the machine's one history just one line. With another status nothing is put, the line
 /// that refuses the input, or a front. Where memory is wanting only when the log is printed, the
 /// callers have run, and nothing is put.
-pub fn run_top<R: Threads + Wait + Sync, S: Source, K: Sink, H: HostSpace + Sync, G: Gate + Sync>(
+pub fn run_top<R: Threads + Wait + Sync, S: Source, K: Sink, H: HostOpener, G: Gate + Sync>(
     rt: &R,
     alloc: Global,
     words: &[String],
     source: &mut S,
     sink: &mut K,
-    host: &H,
+    host: H,
     gate: &G,
 ) -> RunEnd
-    ensures puts { PutsBy (trace_of Run) (IsRunText (IsRunOf H.Port.gave H.Port.took) result) result.status
-        (S.left source.old) (K.got sink.old) (K.got sink.new) (K.faults sink.old) (K.faults sink.new) }
-    ensures ran { RanBy (IsRunOf H.Port.gave H.Port.took) result.status (S.left source.old) result }
+    ensures puts { PutsBy (trace_of Run)
+        (IsRunText (IsRunOf H.Space.Port.gave H.Space.Port.took) result) result.status
+        (S.left source.old) (K.got sink.old) (K.got sink.new)
+        (K.faults sink.old) (K.faults sink.new) }
+    ensures ran { RanBy (IsRunOf H.Space.Port.gave H.Space.Port.took) result.status
+        (S.left source.old) result }
 
     ensures usage { (result.status ≡ Status.Usage)
         ↔ (map (λ word. string_bytes word) words.now ≢ codes "run" ∷ []) }
@@ -70,7 +73,11 @@ pub fn run_top<R: Threads + Wait + Sync, S: Source, K: Sink, H: HostSpace + Sync
         Err(InputError::Failed) => return none_ran(alloc, Status::ReadFault),
         Err(InputError::Memory) => return none_ran(alloc, Status::Memory),
     };
-    let Ok(done) = run(rt, alloc, &trace, host, gate) else {
+    // No command wants memory at the host.
+    let Ok(space) = host.open(places(&trace.plan)) else {
+        return none_ran(alloc, Status::Memory);
+    };
+    let Ok(done) = run(rt, alloc, &trace, &space, gate) else {
         return none_ran(alloc, Status::Memory);
     };
     RunEnd {

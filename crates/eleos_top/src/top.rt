@@ -4,9 +4,9 @@ ghost use Rattle.std.specs.Io.KnownBytes.{Keeps};
 ghost use Rattle.eleos_top.specs.Outcome.{PutsFront, refused_text};
 
 use crate::streams::put_all;
-use crate::text::{push, push_number};
 use eleos_base::{NoMemory, Sink, Status};
-use eleos_trace::Bad;
+use eleos_texts::Bad;
+use eleos_texts::printing::{push, push_number};
 use std::alloc::Global;
 
 /// Whether this is the only word.

@@ -1,5 +1,5 @@
 use Rattle.std.proofs.Common.{ap, Err, subst}
-use Rattle.eleos_trace.specs.Reasons.{Fails}
+use Rattle.eleos_texts.specs.Reasons.{Fails}
 use Rattle.eleos_trace.specs.Reading.{trace_of}
 use Rattle.eleos_top.proofs.Readers.{too_large, trace_of-large, refuses_large, refuses_told, refused_as}
 use Rattle.eleos_top.proofs.input.trace_in.Goals as goal

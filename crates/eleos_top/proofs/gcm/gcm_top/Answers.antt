@@ -1,8 +1,8 @@
-use Rattle.eleos_top.specs.GcmVectors.{vectors_in}
-use Rattle.eleos_top.specs.GcmAnswers.{AnswersVectors}
+use Rattle.eleos_vectors.specs.Vectors.{vectors_in}
+use Rattle.eleos_vectors.specs.Answers.{AnswersVectors}
 use Rattle.std.proofs.Common.{ap, Err}
 use Rattle.eleos_top.proofs.Refusing.{PutsBy-refused}
-use Rattle.eleos_top.proofs.gcm.top.gcm_top.Goals as goal
+use Rattle.eleos_top.proofs.gcm.gcm_top.Goals as goal
 
 pub returns-in-Err-Refused-clause-puts : goal.returns-in-Err-Refused-clause-puts
 returns-in-Err-Refused-clause-puts g c =

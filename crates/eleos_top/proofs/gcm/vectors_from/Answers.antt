@@ -1,8 +1,8 @@
 use Rattle.std.proofs.Common.{ap, Err, subst}
-use Rattle.eleos_trace.specs.Reasons.{Fails}
-use Rattle.eleos_top.specs.GcmVectors.{vectors_in}
+use Rattle.eleos_texts.specs.Reasons.{Fails}
+use Rattle.eleos_vectors.specs.Vectors.{vectors_in}
 use Rattle.eleos_top.proofs.Readers.{too_large, vectors_in-large, refuses_large, refuses_told, refused_as}
-use Rattle.eleos_top.proofs.gcm.top.vectors_from.Goals as goal
+use Rattle.eleos_top.proofs.gcm.vectors_from.Goals as goal
 
 pub returns-in-Err-TooLarge-clause-refused : goal.returns-in-Err-TooLarge-clause-refused
 returns-in-Err-TooLarge-clause-refused g c = λ bad same.
