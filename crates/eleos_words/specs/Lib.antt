@@ -1,0 +1,9 @@
+pub mod Told
+pub mod ToldParts
+pub mod NotedStates
+pub mod Notes
+pub mod Rings
+pub mod Layout
+pub mod Bytes
+pub mod Glances
+pub mod Stores
