@@ -1,0 +1,6 @@
+mod Ends
+mod Fed
+mod Good
+mod Joined
+mod Limits
+mod Steps
