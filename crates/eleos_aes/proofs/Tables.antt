@@ -1,6 +1,6 @@
 -- The table of the code holds the definition's values.
-use Rattle.std.proofs.Common.{◌≡◌, ℕ, ◌*◌, ◌/◌, ◌%◌, ◌^◌, ◌<◌, true, bit_xor, slice_index, refl}
-use Rattle.eleos_base.specs.ByteField.{product, power, inverse}
+use Rattle.std.proofs.Common.{◌≡◌, ℕ, ◌<◌, true, slice_index, refl}
+use Rattle.eleos_base.specs.ByteField.{product, power}
 use Rattle.eleos_base.proofs.Tables.{agree, agree_at}
 use Rattle.eleos_aes.specs.declared.words.TheConstants.{POWERS}
 

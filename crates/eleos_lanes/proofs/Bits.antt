@@ -1,8 +1,8 @@
 -- Bytes of eight bits.
-use Rattle.std.proofs.Common.{◌≡◌, ℕ, zero, suc, ◌+◌, ◌-◌, ◌*◌, ◌/◌, ◌%◌, ◌^◌, ◌<◌, List, [], ◌∷◌, ◌++◌, length, get_or, bit_and, bit_xor, refl, sym, subst, ap, ap₂, ◌∙◌, arith, inl, inr}
+use Rattle.std.proofs.Common.{◌≡◌, ℕ, zero, suc, ◌+◌, ◌-◌, ◌*◌, ◌/◌, ◌%◌, ◌^◌, ◌<◌, List, [], ◌∷◌, ◌++◌, length, get_or, bit_and, bit_xor, refl, subst, ap, ap₂, ◌∙◌, arith, inl, inr}
 use Rattle.std.proofs.lemmas.Bool.{cases_lt}
 use Rattle.std.proofs.lemmas.List.{get_or_append_left}
-use Rattle.std.proofs.lemmas.Nat.{xor_mod, xor_shr, xor_block, and_mod, and_shr}
+use Rattle.std.proofs.lemmas.Nat.{xor_mod, xor_shr, and_mod, and_shr}
 use Rattle.std.specs.Int.{bit_at}
 use Rattle.eleos_lanes.specs.Planes.{byte_of, lane_bit}
 

@@ -6,7 +6,7 @@ use Rattle.std.proofs.lemmas.Nat.{pow_pos, shr-shr, and_mask, xor_comm}
 use Rattle.std.proofs.lemmas.Nat.Bits.{bit_at-lt, bit_at_and, bit_at_ones, bit_at-zero, bit_at_cat_low, bit_at_cat_high}
 use Rattle.std.proofs.lemmas.Bool.{cases_lt, lt-ltb, le-ltb}
 use Rattle.std.specs.Int.{bit_at}
-use Rattle.std.specs.Int.Bits.{xor_assoc, xor_self, xor_zero_r}
+use Rattle.std.specs.Int.Bits.{xor_zero_r}
 use Rattle.eleos_lanes.proofs.Bits.{bit_xor_at, bit_and_at}
 
 bit_at_shr : (a by j : ℕ) → bit_at (a / 2 ^ by) j ≡ bit_at a (by + j)

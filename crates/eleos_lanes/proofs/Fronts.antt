@@ -1,5 +1,5 @@
 -- Blocks in the front of eight.
-use Rattle.std.proofs.Common.{◌≡◌, ℕ, ◌+◌, ◌-◌, ◌*◌, ◌≤◌, ◌<◌, List, ◌++◌, length, take, drop, slice_range, sym, ◌∙◌, ap, arith, length-drop}
+use Rattle.std.proofs.Common.{◌≡◌, ℕ, ◌+◌, ◌-◌, ◌*◌, ◌≤◌, List, ◌++◌, length, take, drop, slice_range, ◌∙◌, ap, arith, length-drop}
 use Rattle.std.proofs.lemmas.List.{drop-append-le, drop-take, take-append-le, take-take}
 use Rattle.std.proofs.lemmas.Slice.{between_is}
 

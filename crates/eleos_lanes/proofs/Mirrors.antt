@@ -1,16 +1,16 @@
 -- Blocks and the planes that they are mirrored in.
-use Rattle.std.proofs.Common.{◌≡◌, ℕ, ◌+◌, ◌*◌, ◌/◌, ◌%◌, ◌^◌, ◌-◌, ◌≤◌, ◌<◌, List, [], ◌∷◌, ◌++◌, length, take, drop, get_or, true, refl, sym, ap, ap₂, ◌∙◌, arith, length-append, length-take, length-drop}
+use Rattle.std.proofs.Common.{◌≡◌, ℕ, ◌+◌, ◌*◌, ◌-◌, ◌≤◌, ◌<◌, List, [], ◌∷◌, ◌++◌, length, take, drop, get_or, true, refl, sym, ap, ◌∙◌, arith, length-append, length-take, length-drop}
 use Rattle.std.proofs.lemmas.List.{ext_get_or, drop-take}
 use Rattle.std.proofs.lemmas.Slice.{between_is, between-put_mid, take-put_mid_below}
 use borrow.Rule.Slice.PartMut.{put_mid}
 use Rattle.std.specs.Int.{bit_at}
 use Rattle.eleos_base.proofs.Tables.{agree, agree_at}
-use Rattle.eleos_lanes.specs.Planes.{block_at, byte_of, plane_bit, plane_byte, vectors}
+use Rattle.eleos_lanes.specs.Planes.{block_at, byte_of, lane_of, plane_bit, plane_byte, vectors}
 use Rattle.eleos_lanes.proofs.Bits.{below_eight, below_sixteen, same_byte, sixteen}
 
--- in each lane the squares of bits are each other's mirror images
+-- in each lane the squares of bits are each other's mirror images, where the first are by rows
 abbrev pub AreMirrored : List (List ℕ) → List (List ℕ) → Type 0
-AreMirrored x v = (b k i : ℕ) → b < 8 → k < 8 → i < 16 → plane_bit x b i k ≡ plane_bit v k i b
+AreMirrored x v = (b k i : ℕ) → b < 8 → k < 8 → i < 16 → plane_bit x b (lane_of i) k ≡ plane_bit v k i b
 
 own_bits : agree (λ x. byte_of (bit_at x 0) (bit_at x 1) (bit_at x 2) (bit_at x 3) (bit_at x 4) (bit_at x 5) (bit_at x 6) (bit_at x 7)) (λ x. x) 256 ≡ true
 own_bits = refl
@@ -36,7 +36,7 @@ pub mirrored_block : (x v : List (List ℕ)) (b : ℕ) → AreMirrored x v → b
 unfolding block_at plane_byte
 mirrored_block x v b are low long fits =
     let own = get_or v b [] in
-    sixteen (λ i. plane_byte x b i) (λ i. get_or own i 0)
+    sixteen (λ i. plane_byte x b (lane_of i)) (λ i. get_or own i 0)
     (λ i below.
     same_byte (are b 0 i low (omega arith) below) (are b 1 i low (omega arith) below) (are b 2 i low (omega arith) below)
     (are b 3 i low (omega arith) below) (are b 4 i low (omega arith) below) (are b 5 i low (omega arith) below)
@@ -87,9 +87,9 @@ pub block_in_vectors : (bytes : List ℕ) (v : List (List ℕ)) (b : ℕ) → ((
 unfolding block_at plane_byte
 block_in_vectors bytes v b are =
     let own : (k : ℕ) → k < 8 → get_or (vectors bytes) k [] ≡ get_or v k [] = λ k low. vector_at bytes k low ∙ are k low in
-    sixteen (λ i. plane_byte (vectors bytes) b i) (λ i. plane_byte v b i)
+    sixteen (λ i. plane_byte (vectors bytes) b (lane_of i)) (λ i. plane_byte v b (lane_of i))
     (λ i below.
-    same_byte (ap (λ x. bit_at (get_or x i 0) b) (own 0 (omega arith))) (ap (λ x. bit_at (get_or x i 0) b) (own 1 (omega arith)))
-    (ap (λ x. bit_at (get_or x i 0) b) (own 2 (omega arith))) (ap (λ x. bit_at (get_or x i 0) b) (own 3 (omega arith)))
-    (ap (λ x. bit_at (get_or x i 0) b) (own 4 (omega arith))) (ap (λ x. bit_at (get_or x i 0) b) (own 5 (omega arith)))
-    (ap (λ x. bit_at (get_or x i 0) b) (own 6 (omega arith))) (ap (λ x. bit_at (get_or x i 0) b) (own 7 (omega arith))))
+    same_byte (ap (λ x. bit_at (get_or x (lane_of i) 0) b) (own 0 (omega arith))) (ap (λ x. bit_at (get_or x (lane_of i) 0) b) (own 1 (omega arith)))
+    (ap (λ x. bit_at (get_or x (lane_of i) 0) b) (own 2 (omega arith))) (ap (λ x. bit_at (get_or x (lane_of i) 0) b) (own 3 (omega arith)))
+    (ap (λ x. bit_at (get_or x (lane_of i) 0) b) (own 4 (omega arith))) (ap (λ x. bit_at (get_or x (lane_of i) 0) b) (own 5 (omega arith)))
+    (ap (λ x. bit_at (get_or x (lane_of i) 0) b) (own 6 (omega arith))) (ap (λ x. bit_at (get_or x (lane_of i) 0) b) (own 7 (omega arith))))

@@ -1,5 +1,5 @@
 -- Products by 02 on bits, and the columns' sums.
-use Rattle.std.proofs.Common.{◌≡◌, ℕ, zero, suc, ◌+◌, ◌*◌, ◌/◌, ◌%◌, ◌^◌, ◌<◌, List, [], ◌∷◌, get_or, true, bit_xor, refl, sym, ap, ap₂, ◌∙◌, arith}
+use Rattle.std.proofs.Common.{◌≡◌, ℕ, zero, suc, ◌+◌, ◌*◌, ◌/◌, ◌^◌, ◌<◌, List, [], ◌∷◌, get_or, true, bit_xor, refl, sym, ap, ap₂, ◌∙◌, arith}
 use Rattle.std.proofs.lemmas.Nat.{xor_block, xor_comm, xor_lt, xor_shr}
 use Rattle.std.proofs.lemmas.Nat.Bits.{bit_at-lt}
 use Rattle.std.specs.Int.{bit_at}
@@ -7,8 +7,8 @@ use Rattle.std.specs.Int.Bits.{xor_assoc}
 use Rattle.eleos_base.specs.ByteField.{product}
 use Rattle.eleos_base.specs.AesState.{mix_row, mix_columns}
 use Rattle.eleos_base.proofs.Tables.{agree, agree_at}
-use Rattle.eleos_lanes.specs.Planes.{byte_of, differ, lane_bit, plane_bit, plane_byte, turned}
-use Rattle.eleos_lanes.proofs.Bits.{bits_of_byte, same_byte}
+use Rattle.eleos_lanes.specs.Planes.{byte_of, differ, plane_byte, turned}
+use Rattle.eleos_lanes.proofs.Bits.{bits_of_byte}
 
 -- four parts of a sum, with the middle two exchanged
 xor_middle : (a b c d : ℕ) → bit_xor (bit_xor a b) (bit_xor c d) ≡ bit_xor (bit_xor a c) (bit_xor b d)
@@ -197,15 +197,23 @@ plane_byte-lt x b i =
 -- the mixed bytes of a state are its mixed columns
 pub mixed_state : (f : ℕ → ℕ) → ((i : ℕ) → f i < 256)
     → let at : ℕ → ℕ = λ i. mixed_byte (f i) (f (turned i 1)) (f (turned i 2)) (f (turned i 3)) in
-    at 0 ∷ at 1 ∷ at 2 ∷ at 3 ∷ at 4 ∷ at 5 ∷ at 6 ∷ at 7 ∷ at 8 ∷ at 9 ∷ at 10 ∷ at 11 ∷ at 12 ∷ at 13 ∷ at 14 ∷ at 15 ∷ []
-    ≡ mix_columns (f 0 ∷ f 1 ∷ f 2 ∷ f 3 ∷ f 4 ∷ f 5 ∷ f 6 ∷ f 7 ∷ f 8 ∷ f 9 ∷ f 10 ∷ f 11 ∷ f 12 ∷ f 13 ∷ f 14 ∷ f 15 ∷ [])
+    at 0 ∷ at 4 ∷ at 8 ∷ at 12 ∷ at 1 ∷ at 5 ∷ at 9 ∷ at 13 ∷ at 2 ∷ at 6 ∷ at 10 ∷ at 14 ∷ at 3 ∷ at 7 ∷ at 11 ∷ at 15 ∷ []
+    ≡ mix_columns (f 0 ∷ f 4 ∷ f 8 ∷ f 12 ∷ f 1 ∷ f 5 ∷ f 9 ∷ f 13 ∷ f 2 ∷ f 6 ∷ f 10 ∷ f 14 ∷ f 3 ∷ f 7 ∷ f 11 ∷ f 15 ∷ [])
 unfolding mix_columns
 mixed_state f l =
-    ap₂ ◌∷◌ (row_0 (f 0) (f 1) (f 2) (f 3) (l 0) (l 1) (l 2) (l 3)) (ap₂ ◌∷◌ (row_1 (f 1) (f 2) (f 3) (f 0) (l 1) (l 2) (l 3) (l 0))
-    (ap₂ ◌∷◌ (row_2 (f 2) (f 3) (f 0) (f 1) (l 2) (l 3) (l 0) (l 1)) (ap₂ ◌∷◌ (row_3 (f 3) (f 0) (f 1) (f 2) (l 3) (l 0) (l 1) (l 2))
-    (ap₂ ◌∷◌ (row_0 (f 4) (f 5) (f 6) (f 7) (l 4) (l 5) (l 6) (l 7)) (ap₂ ◌∷◌ (row_1 (f 5) (f 6) (f 7) (f 4) (l 5) (l 6) (l 7) (l 4))
-    (ap₂ ◌∷◌ (row_2 (f 6) (f 7) (f 4) (f 5) (l 6) (l 7) (l 4) (l 5)) (ap₂ ◌∷◌ (row_3 (f 7) (f 4) (f 5) (f 6) (l 7) (l 4) (l 5) (l 6))
-    (ap₂ ◌∷◌ (row_0 (f 8) (f 9) (f 10) (f 11) (l 8) (l 9) (l 10) (l 11)) (ap₂ ◌∷◌ (row_1 (f 9) (f 10) (f 11) (f 8) (l 9) (l 10) (l 11) (l 8))
-    (ap₂ ◌∷◌ (row_2 (f 10) (f 11) (f 8) (f 9) (l 10) (l 11) (l 8) (l 9)) (ap₂ ◌∷◌ (row_3 (f 11) (f 8) (f 9) (f 10) (l 11) (l 8) (l 9) (l 10))
-    (ap₂ ◌∷◌ (row_0 (f 12) (f 13) (f 14) (f 15) (l 12) (l 13) (l 14) (l 15)) (ap₂ ◌∷◌ (row_1 (f 13) (f 14) (f 15) (f 12) (l 13) (l 14) (l 15) (l 12))
-    (ap₂ ◌∷◌ (row_2 (f 14) (f 15) (f 12) (f 13) (l 14) (l 15) (l 12) (l 13)) (ap₂ ◌∷◌ (row_3 (f 15) (f 12) (f 13) (f 14) (l 15) (l 12) (l 13) (l 14)) refl)))))))))))))))
+    ap₂ ◌∷◌ (row_0 (f 0) (f 4) (f 8) (f 12) (l 0) (l 4) (l 8) (l 12))
+    (ap₂ ◌∷◌ (row_1 (f 4) (f 8) (f 12) (f 0) (l 4) (l 8) (l 12) (l 0))
+    (ap₂ ◌∷◌ (row_2 (f 8) (f 12) (f 0) (f 4) (l 8) (l 12) (l 0) (l 4))
+    (ap₂ ◌∷◌ (row_3 (f 12) (f 0) (f 4) (f 8) (l 12) (l 0) (l 4) (l 8))
+    (ap₂ ◌∷◌ (row_0 (f 1) (f 5) (f 9) (f 13) (l 1) (l 5) (l 9) (l 13))
+    (ap₂ ◌∷◌ (row_1 (f 5) (f 9) (f 13) (f 1) (l 5) (l 9) (l 13) (l 1))
+    (ap₂ ◌∷◌ (row_2 (f 9) (f 13) (f 1) (f 5) (l 9) (l 13) (l 1) (l 5))
+    (ap₂ ◌∷◌ (row_3 (f 13) (f 1) (f 5) (f 9) (l 13) (l 1) (l 5) (l 9))
+    (ap₂ ◌∷◌ (row_0 (f 2) (f 6) (f 10) (f 14) (l 2) (l 6) (l 10) (l 14))
+    (ap₂ ◌∷◌ (row_1 (f 6) (f 10) (f 14) (f 2) (l 6) (l 10) (l 14) (l 2))
+    (ap₂ ◌∷◌ (row_2 (f 10) (f 14) (f 2) (f 6) (l 10) (l 14) (l 2) (l 6))
+    (ap₂ ◌∷◌ (row_3 (f 14) (f 2) (f 6) (f 10) (l 14) (l 2) (l 6) (l 10))
+    (ap₂ ◌∷◌ (row_0 (f 3) (f 7) (f 11) (f 15) (l 3) (l 7) (l 11) (l 15))
+    (ap₂ ◌∷◌ (row_1 (f 7) (f 11) (f 15) (f 3) (l 7) (l 11) (l 15) (l 3))
+    (ap₂ ◌∷◌ (row_2 (f 11) (f 15) (f 3) (f 7) (l 11) (l 15) (l 3) (l 7))
+    (ap₂ ◌∷◌ (row_3 (f 15) (f 3) (f 7) (f 11) (l 15) (l 3) (l 7) (l 11)) refl)))))))))))))))

@@ -1,14 +1,13 @@
 -- The powers of a block, and sums of four products.
-use Rattle.std.proofs.Common.{◌≡◌, ℕ, zero, suc, ◌+◌, ◌-◌, ◌*◌, ◌^◌, ◌<◌, List, [], ◌∷◌, ◌++◌, length, take, drop, bit_xor, refl, sym, subst, ap, ap₂, ◌∙◌, arith, length-take, length-drop}
-use Rattle.std.proofs.lemmas.List.{length-map}
+use Rattle.std.proofs.Common.{◌≡◌, ℕ, ◌+◌, ◌^◌, ◌<◌, List, [], ◌∷◌, length, bit_xor, sym, ap, ap₂, ◌∙◌, arith}
 use Rattle.std.proofs.lemmas.Simd.{length-zip2}
 use Rattle.std.specs.Int.Bits.{xor_assoc, xor_zero_r}
 use Rattle.std.specs.Simd.Lanes.{zip2}
-use Rattle.eleos_base.specs.BlockField.{number_of, one, power, product, times_power_of_x}
-use Rattle.eleos_base.specs.Ghash.{blocks, sum_of_powers}
-use Rattle.eleos_base.proofs.BlockFieldLemmas.{power-lt, product_assoc, product-lt, product-one, product-xor_left, times_power_of_x-xor, xor_middle}
+use Rattle.eleos_base.specs.BlockField.{power, product}
+use Rattle.eleos_base.specs.Ghash.{sum_of_powers}
+use Rattle.eleos_base.proofs.BlockFieldLemmas.{product_assoc, product-lt, product-one, product-xor_left, times_power_of_x-xor, xor_middle}
 use Rattle.eleos_lanes.specs.Rows.{ArePowers, row, value}
-use Rattle.eleos_lanes.proofs.RowSums.{length-row, rows_from, rows_from_all, rows_from_end, rows_from_next}
+use Rattle.eleos_lanes.proofs.RowSums.{length-row, rows_from, rows_from_end, rows_from_next}
 use Rattle.eleos_lanes.proofs.Values.{times_x8, value-zip2}
 
 pub power_1 : (h : ℕ) → h < 2 ^ 128 → power h 1 ≡ h

@@ -1,16 +1,16 @@
 -- The product of two blocks, byte by byte of the first, and the sums of its rows.
-use Rattle.std.proofs.Common.{◌≡◌, ℕ, zero, suc, ◌+◌, ◌-◌, ◌*◌, ◌/◌, ◌%◌, ◌^◌, ◌<◌, ◌≤◌, List, [], ◌∷◌, ◌++◌, length, take, drop, get_or, map, true, eqb, cond, bit_xor, refl, sym, subst, ap, ap₂, ◌∙◌, arith, inl, inr}
-use Rattle.std.proofs.lemmas.Nat.{shr-shr, xor_comm, xor_lt}
+use Rattle.std.proofs.Common.{◌≡◌, ℕ, zero, suc, ◌+◌, ◌*◌, ◌/◌, ◌%◌, ◌^◌, ◌<◌, List, [], ◌∷◌, length, drop, get_or, bit_xor, refl, sym, ap, ap₂, ◌∙◌, arith}
+use Rattle.std.proofs.lemmas.Nat.{shr-shr, xor_comm}
 use Rattle.std.proofs.lemmas.List.{drop_more, drop_all, length-map}
-use Rattle.std.proofs.lemmas.Nat.Bits.{bit_at-lt, bit_at_cat_low, bit_at_cat_high}
-use Rattle.std.specs.Int.{w128, bit_at, to_be_bytes}
-use Rattle.std.specs.Int.Bits.{xor_assoc, xor_self, xor_zero_r}
-use Rattle.std.specs.Simd.Lanes.{zip2, Each1}
+use Rattle.std.proofs.lemmas.Nat.Bits.{bit_at_cat_low, bit_at_cat_high}
+use Rattle.std.specs.Int.{bit_at}
+use Rattle.std.specs.Int.Bits.{xor_assoc, xor_zero_r}
+use Rattle.std.specs.Simd.Lanes.{Each1}
 use Rattle.eleos_base.specs.BlockField.{number_of, block_of, times_x, times_power_of_x, times_bits, product, where_set}
-use Rattle.eleos_base.proofs.BlockFieldLemmas.{xor_middle, times_power_of_x-xor, times_power_of_x-zero, times_bits-times_x, times_bits-lt}
+use Rattle.eleos_base.proofs.BlockFieldLemmas.{xor_middle, times_power_of_x-xor, times_bits-times_x, times_bits-lt}
 use Rattle.eleos_lanes.specs.Rows.{row, value}
 use Rattle.eleos_lanes.proofs.Exchange.{bit_at_mod}
-use Rattle.eleos_lanes.proofs.Values.{big, big-lt, big_is, length-block_of, times_x8, value_of_block, value_of_number}
+use Rattle.eleos_lanes.proofs.Values.{big, big-lt, big_is, length-block_of, times_x8, value_of_number}
 
 -- ---- the product, by the bytes of its first factor
 

@@ -1,5 +1,5 @@
 -- The circuit of the S-box on the bits of one byte, and its agreement with the S-box on each byte.
-use Rattle.std.proofs.Common.{◌≡◌, ℕ, ◌+◌, ◌*◌, ◌/◌, ◌%◌, ◌^◌, ◌<◌, true, bit_and, bit_xor, refl, sym, ap, ◌∙◌, arith}
+use Rattle.std.proofs.Common.{◌≡◌, ℕ, ◌<◌, true, refl, arith}
 use Rattle.std.specs.Int.{bit_at}
 use Rattle.eleos_base.specs.ByteField.{product, power, inverse}
 use Rattle.eleos_base.specs.SBox.{affine, s_box}

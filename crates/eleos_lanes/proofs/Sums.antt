@@ -1,5 +1,5 @@
 -- Sums of rows that move on byte by byte.
-use Rattle.std.proofs.Common.{◌≡◌, ℕ, zero, suc, ◌+◌, ◌-◌, ◌*◌, ◌^◌, ◌<◌, ◌≤◌, List, [], ◌∷◌, ◌++◌, length, take, get_or, map, replicate, bit_xor, refl, sym, subst, ap, ap₂, ◌∙◌, arith, inl, inr, length-take, length-append}
+use Rattle.std.proofs.Common.{◌≡◌, ℕ, zero, suc, ◌+◌, ◌*◌, ◌<◌, ◌≤◌, List, [], ◌∷◌, ◌++◌, length, take, get_or, replicate, bit_xor, refl, sym, subst, ap, ap₂, ◌∙◌, arith, inl, inr, length-take}
 use Rattle.std.proofs.lemmas.Nat.{xor_comm}
 use Rattle.std.proofs.lemmas.List.{get_or-take, take_all, take_more, append_assoc, get_or_past}
 use Rattle.std.proofs.lemmas.Bool.{cases_lt}

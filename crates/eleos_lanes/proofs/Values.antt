@@ -1,17 +1,15 @@
 -- Strings of bytes as polynomials, modulo the field's: the leftmost bit is the coefficient of x^0.
-use Rattle.std.proofs.Common.{◌≡◌, ℕ, zero, suc, ◌+◌, ◌-◌, ◌*◌, ◌/◌, ◌%◌, ◌^◌, ◌<◌, ◌≤◌, List, [], ◌∷◌, ◌++◌, length, take, drop, get_or, map, true, eqb, cond, bit_xor, refl, sym, subst, ap, ap₂, ◌∙◌, arith, inl, inr}
-use Rattle.std.proofs.lemmas.Nat.{pow_pos, pow-add, xor_block, xor_comm, xor_lt, xor_shr, xor_mod}
-use Rattle.std.proofs.lemmas.Nat.Bits.{bit_at-lt}
+use Rattle.std.proofs.Common.{◌≡◌, ℕ, zero, suc, ◌+◌, ◌*◌, ◌/◌, ◌%◌, ◌^◌, ◌<◌, ◌≤◌, List, [], ◌∷◌, ◌++◌, length, get_or, bit_xor, refl, sym, subst, ap, ap₂, ◌∙◌, arith}
+use Rattle.std.proofs.lemmas.Nat.{pow_pos, pow-add, xor_block, xor_comm, xor_lt}
 use Rattle.std.proofs.lemmas.Simd.{Each1-zip2, Each2-of, length-zip2}
 use Rattle.std.proofs.Math.Nat.{mul_assoc, mul-le-mul_right, mul-lt-mul_of_pos_right}
-use Rattle.std.specs.Int.{w128, bit_at, to_be_bytes}
-use Rattle.std.specs.Int.Bits.{xor_assoc, xor_self, xor_zero_r}
+use Rattle.std.specs.Int.{w128, to_be_bytes}
+use Rattle.std.specs.Int.Bits.{xor_assoc, xor_zero_r}
 use Rattle.std.specs.Simd.Lanes.{zip2, Each1}
-use Rattle.eleos_base.specs.BlockField.{number_of, block_of, times_x, times_power_of_x, times_bits, product, where_set, reduction}
-use Rattle.eleos_base.proofs.Tables.{agree, agree_at}
+use Rattle.eleos_base.specs.BlockField.{number_of, block_of, times_x, times_power_of_x}
 use Rattle.eleos_lanes.specs.Rows.{value}
 use Rattle.eleos_lanes.proofs.Mirrors.{sixteen_of}
-use Rattle.eleos_base.proofs.BlockFieldLemmas.{xor_middle, same_from_powers, times_x-xor, times_power_of_x-xor, times_power_of_x-zero, times_bits-xor, times_bits-times_x}
+use Rattle.eleos_base.proofs.BlockFieldLemmas.{xor_middle, times_power_of_x-xor}
 
 -- v times x^8, by which a byte moves on
 abbrev pub times_x8 : ℕ → ℕ

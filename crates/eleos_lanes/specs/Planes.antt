@@ -1,5 +1,5 @@
--- Planes of bits. Eight vectors of 16 lanes hold eight blocks of 16 bytes: bit b of lane i of
--- plane k is bit k of byte i of block b.
+-- Planes of bits. Eight vectors of 16 lanes hold eight states by rows: bit b of lane 4r + c of
+-- plane k is bit k of the byte in row r and column c of block b.
 use Rattle.std.specs.Prelude.{ℕ, ◌+◌, ◌*◌, ◌/◌, ◌%◌, List, [], ◌∷◌, slice_index, slice_index_or, bit_and, bit_xor}
 use Rattle.std.specs.Int.{bit_at}
 use Rattle.std.specs.Simd.Lanes.{chunk}
@@ -21,11 +21,11 @@ abbrev pub byte_of : ℕ → ℕ → ℕ → ℕ → ℕ → ℕ → ℕ → ℕ
 byte_of x0 x1 x2 x3 x4 x5 x6 x7 =
     x0 + 2 * (x1 + 2 * (x2 + 2 * (x3 + 2 * (x4 + 2 * (x5 + 2 * (x6 + 2 * x7))))))
 
--- bit k of byte i of block b
+-- bit k of the byte in lane i of block b
 abbrev pub plane_bit : List (List ℕ) → ℕ → ℕ → ℕ → ℕ
 plane_bit x b i k = lane_bit (slice_index_or x k []) i b
 
--- byte i of block b
+-- the byte in lane i of block b
 unfoldable pub plane_byte : List (List ℕ) → ℕ → ℕ → ℕ
 plane_byte x b i =
     byte_of (plane_bit x b i 0) (plane_bit x b i 1) (plane_bit x b i 2) (plane_bit x b i 3)
@@ -33,11 +33,15 @@ plane_byte x b i =
 
 -- block b: 16 bytes
 unfoldable pub block_at : List (List ℕ) → ℕ → List ℕ
-block_at x b = state_of (λ r c. plane_byte x b (r + 4 * c))
+block_at x b = state_of (λ r c. plane_byte x b (4 * r + c))
 
--- the place of the byte that stands n rows further on in the column of byte i
+-- the lane that stands n rows further on in the column of lane i
 abbrev pub turned : ℕ → ℕ → ℕ
-turned i n = 4 * (i / 4) + (i + n) % 4
+turned i n = (i + 4 * n) % 16
+
+-- the lane of byte i of a block, whose bytes go by columns
+abbrev pub lane_of : ℕ → ℕ
+lane_of i = 4 * (i % 4) + i / 4
 
 -- eight vectors of 16 bytes that stand one after another
 unfoldable pub vectors : List ℕ → List (List ℕ)

@@ -1,5 +1,5 @@
 -- Products in the field of GCM by rows: byte j of the product of each byte of a block with h.
-use Rattle.std.specs.Prelude.{◌≡◌, ℕ, ◌<◌, ◌*◌, ◌^◌, List, [], ◌∷◌, bit_xor, length, map, slice_index, slice_index_or}
+use Rattle.std.specs.Prelude.{◌≡◌, ℕ, ◌<◌, ◌*◌, ◌^◌, List, [], ◌∷◌, bit_xor, map, slice_index, slice_index_or}
 use Rattle.eleos_base.specs.BlockField.{block_of, power, times_bits, times_power_of_x}
 
 -- byte j of the product of each byte and h

@@ -5,7 +5,7 @@ ghost use Rattle.eleos_lanes.specs.Planes.{add_block, block_at, plane_byte, vect
 
 use crate::circuit::sub_planes;
 use crate::gate::xor;
-use crate::mirror::mirrored;
+use crate::mirror::{from_planes, to_planes};
 use crate::planes::{mix_planes, shift_planes};
 use std::simd::prelude::*;
 
@@ -52,7 +52,7 @@ fn lay(v: [u8x16; 8], bytes: &mut [u8; 128])
 pub fn planes_of(blocks: &[u8; 128]) -> [u8x16; 8]
     ensures { (b : ℕ) → b < 8 → block_at result b ≡ take 16 (drop (16 * b) blocks.now) }
 {
-    mirrored(vectors(blocks))
+    to_planes(vectors(blocks))
 }
 
 /// Eight blocks out of their planes.
@@ -60,7 +60,7 @@ pub fn planes_of(blocks: &[u8; 128]) -> [u8x16; 8]
 pub fn put_blocks(planes: [u8x16; 8], blocks: &mut [u8; 128])
     ensures { (b : ℕ) → b < 8 → take 16 (drop (16 * b) blocks.new) ≡ block_at planes b }
 {
-    lay(mirrored(planes), blocks);
+    lay(from_planes(planes), blocks);
 }
 
 /// The planes, one after another, that hold one block eight times.
@@ -69,7 +69,7 @@ pub fn spread(block: &[u8; 16]) -> [u8; 128]
 {
     let v = u8x16::from_array(*block);
     let mut planes = [0; 128];
-    lay(mirrored([v, v, v, v, v, v, v, v]), &mut planes);
+    lay(to_planes([v, v, v, v, v, v, v, v]), &mut planes);
     planes
 }
 

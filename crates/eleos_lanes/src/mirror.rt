@@ -2,7 +2,7 @@
 // mirrored.
 ghost use Rattle.std.specs.Prelude.{◌≡◌, ℕ, ◌+◌, ◌-◌, ◌<◌, cond, eqb, ltb};
 ghost use Rattle.std.specs.Int.{bit_at};
-ghost use Rattle.eleos_lanes.specs.Planes.{lane_bit, plane_bit};
+ghost use Rattle.eleos_lanes.specs.Planes.{lane_bit, lane_of, plane_bit};
 
 use std::simd::prelude::*;
 
@@ -23,7 +23,7 @@ fn exchange(a: u8x16, b: u8x16, by: u8, mask: u8) -> (u8x16, u8x16)
 
 /// Bit b of lane i of vector k and bit k of lane i of vector b change places.
 #[inline(always)]
-pub(crate) fn mirrored(v: [u8x16; 8]) -> [u8x16; 8]
+fn mirrored(v: [u8x16; 8]) -> [u8x16; 8]
     ensures { (b k i : ℕ) → b < 8 → k < 8 → i < 16 → plane_bit result b i k ≡ plane_bit v k i b }
 {
     let [a0, a1, a2, a3, a4, a5, a6, a7] = v;
@@ -40,4 +40,48 @@ pub(crate) fn mirrored(v: [u8x16; 8]) -> [u8x16; 8]
     let (d2, d6) = exchange(c2, c6, 4, 0x0f);
     let (d3, d7) = exchange(c3, c7, 4, 0x0f);
     [d0, d1, d2, d3, d4, d5, d6, d7]
+}
+
+/// Lanes by rows in place of by columns, or by columns in place of by rows.
+#[inline(always)]
+fn turned_over(v: u8x16) -> u8x16
+    ensures { (i j : ℕ) → i < 16 → lane_bit result i j ≡ lane_bit v (lane_of i) j }
+{
+    v.swizzle([0, 4, 8, 12, 1, 5, 9, 13, 2, 6, 10, 14, 3, 7, 11, 15])
+}
+
+#[inline(always)]
+fn all_turned_over(v: [u8x16; 8]) -> [u8x16; 8]
+    ensures { (b k i : ℕ) → b < 8 → k < 8 → i < 16
+        → plane_bit result b i k ≡ plane_bit v b (lane_of i) k }
+{
+    let [a0, a1, a2, a3, a4, a5, a6, a7] = v;
+    [
+        turned_over(a0),
+        turned_over(a1),
+        turned_over(a2),
+        turned_over(a3),
+        turned_over(a4),
+        turned_over(a5),
+        turned_over(a6),
+        turned_over(a7),
+    ]
+}
+
+/// The planes of eight blocks.
+#[inline(always)]
+pub(crate) fn to_planes(blocks: [u8x16; 8]) -> [u8x16; 8]
+    ensures { (b k i : ℕ) → b < 8 → k < 8 → i < 16
+        → plane_bit result b (lane_of i) k ≡ plane_bit blocks k i b }
+{
+    all_turned_over(mirrored(blocks))
+}
+
+/// The eight blocks in planes.
+#[inline(always)]
+pub(crate) fn from_planes(planes: [u8x16; 8]) -> [u8x16; 8]
+    ensures { (b k i : ℕ) → b < 8 → k < 8 → i < 16
+        → plane_bit planes b (lane_of i) k ≡ plane_bit result k i b }
+{
+    mirrored(all_turned_over(planes))
 }

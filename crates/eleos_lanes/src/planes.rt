@@ -10,9 +10,9 @@ use std::simd::prelude::*;
 #[inline(always)]
 fn rows_shifted(v: u8x16) -> u8x16
     ensures { (i j : ℕ) → i < 16
-        → lane_bit result i j ≡ lane_bit v (i % 4 + 4 * ((i / 4 + i % 4) % 4)) j }
+        → lane_bit result i j ≡ lane_bit v (4 * (i / 4) + (i % 4 + i / 4) % 4) j }
 {
-    v.swizzle([0, 5, 10, 15, 4, 9, 14, 3, 8, 13, 2, 7, 12, 1, 6, 11])
+    v.swizzle([0, 1, 2, 3, 5, 6, 7, 4, 10, 11, 8, 9, 15, 12, 13, 14])
 }
 
 #[inline(always)]
@@ -37,7 +37,7 @@ pub(crate) fn shift_planes(v: [u8x16; 8]) -> [u8x16; 8]
 fn next_row(v: u8x16) -> u8x16
     ensures { (i j : ℕ) → i < 16 → lane_bit result i j ≡ lane_bit v (turned i 1) j }
 {
-    v.swizzle([1, 2, 3, 0, 5, 6, 7, 4, 9, 10, 11, 8, 13, 14, 15, 12])
+    v.swizzle([4, 5, 6, 7, 8, 9, 10, 11, 12, 13, 14, 15, 0, 1, 2, 3])
 }
 
 /// Each column turned by two rows.
@@ -45,7 +45,7 @@ fn next_row(v: u8x16) -> u8x16
 fn second_row(v: u8x16) -> u8x16
     ensures { (i j : ℕ) → i < 16 → lane_bit result i j ≡ lane_bit v (turned i 2) j }
 {
-    v.swizzle([2, 3, 0, 1, 6, 7, 4, 5, 10, 11, 8, 9, 14, 15, 12, 13])
+    v.swizzle([8, 9, 10, 11, 12, 13, 14, 15, 0, 1, 2, 3, 4, 5, 6, 7])
 }
 
 /// Each byte plus the next in its column, and the sum of the three others.

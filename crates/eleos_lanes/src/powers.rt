@@ -72,8 +72,10 @@ impl Powers {
     fn products(&self, a: u8x16, b: u8x16, c: u8x16, d: u8x16) -> u128
         ensures fits { self.now < 2 ^ 128 }
         ensures sum { result ≡ bit_xor
-            (bit_xor (product (number_of a) (power self.now 4)) (product (number_of b) (power self.now 3)))
-            (bit_xor (product (number_of c) (power self.now 2)) (product (number_of d) (power self.now 1))) }
+            (bit_xor (product (number_of a) (power self.now 4))
+            (product (number_of b) (power self.now 3)))
+            (bit_xor (product (number_of c) (power self.now 2))
+            (product (number_of d) (power self.now 1))) }
     {
         let mut front = u8x16::splat(0);
         let mut back = u8x16::splat(0);
@@ -89,7 +91,8 @@ impl Powers {
     pub fn absorb_four(&self, sum: u128, bytes: &[u8; 64]) -> u128
         ensures fits { self.now < 2 ^ 128 }
         ensures hash { result
-            ≡ bit_xor (product sum (power self.now 4)) (sum_of_powers self.now (blocks 4 bytes.now)) }
+            ≡ bit_xor (product sum (power self.now 4))
+            (sum_of_powers self.now (blocks 4 bytes.now)) }
     {
         self.products(
             u8x16::from_slice(&bytes[0..]) ^ lanes(sum),

@@ -1,8 +1,7 @@
-use Rattle.std.proofs.Common.{◌≡◌, ℕ, ◌+◌, ◌*◌, List, take, drop, ap, ap₂, ◌∙◌, refl, arith}
-use Rattle.eleos_base.specs.AesState.{mix_columns, shift_rows, sub_bytes, add_round_key}
-use Rattle.eleos_base.specs.AesCipher.{last_round, round_key, rounds}
-use Rattle.eleos_lanes.specs.Planes.{add_block, block_at, vectors}
-use Rattle.eleos_aes.specs.Sliced.{key_block}
+use Rattle.std.proofs.Common.{◌≡◌, ◌+◌, ◌*◌, take, drop, ap, ap₂, ◌∙◌, arith}
+use Rattle.eleos_base.specs.AesState.{mix_columns, shift_rows, sub_bytes}
+use Rattle.eleos_base.specs.AesCipher.{rounds}
+use Rattle.eleos_lanes.specs.Planes.{add_block}
 use Rattle.eleos_aes.proofs.States.{add_key_block, rounds_next}
 use Rattle.eleos_aes.proofs.cipher.encrypt_by.Goals as goal
 

@@ -1,6 +1,5 @@
-use Rattle.std.proofs.Common.{◌≡◌, ◌+◌, ◌-◌, ◌*◌, ◌/◌, ◌<◌, length, ap, ◌∙◌, arith, inl, inr}
+use Rattle.std.proofs.Common.{◌≡◌, ◌/◌, length, arith, inl, inr}
 use Rattle.std.proofs.lemmas.Bool.{cases_lt}
-use Rattle.eleos_base.specs.Gcm.{block_count}
 use Rattle.eleos_gcm.proofs.Fours.{all_hashed, four_hashed, none_hashed, one_hashed}
 use Rattle.eleos_gcm.proofs.hash.hash_from.Goals as goal
 

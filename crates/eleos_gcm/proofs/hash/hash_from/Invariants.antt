@@ -1,4 +1,4 @@
-use Rattle.std.proofs.Common.{◌≡◌, ◌*◌, ◌/◌, ◌^◌, ◌<◌, length}
+use Rattle.std.proofs.Common.{◌*◌, ◌/◌, ◌^◌, ◌<◌, length}
 use Rattle.eleos_gcm.proofs.Fours.{IsHashed}
 use Rattle.eleos_gcm.proofs.hash.hash_from.Given as goal
 

@@ -1,4 +1,4 @@
-use Rattle.std.proofs.Common.{◌≡◌, true, false, bit_or, bit_xor, eqb, sym, subst, ap, ◌∙◌, refl, arith}
+use Rattle.std.proofs.Common.{◌≡◌, bit_or, bit_xor, sym, ap, ◌∙◌, refl, arith}
 use Rattle.std.proofs.lemmas.Bool.{eq-eqb, ne_eqb, false≢true}
 use Rattle.std.specs.Simd.Lanes.{zip2, fold_l}
 use Rattle.eleos_lanes.proofs.XorBytes.{none_differs, same_collects}

@@ -1,4 +1,4 @@
-use Rattle.std.proofs.Common.{◌≡◌, ◌+◌, ◌-◌, ◌*◌, ◌%◌, ◌≤◌, length, take, drop, ◌∙◌, arith, length-take, length-drop}
+use Rattle.std.proofs.Common.{◌≡◌, ◌+◌, ◌-◌, ◌%◌, ◌≤◌, length, take, drop, ◌∙◌, arith, length-take, length-drop}
 use Rattle.eleos_base.specs.AesState.{mix_columns}
 use Rattle.eleos_lanes.proofs.States.{more_mixed, none_mixed}
 use Rattle.eleos_lanes.proofs.bytes.mix_columns.Goals as goal

@@ -1,4 +1,4 @@
-use Rattle.std.proofs.Common.{◌≡◌, ◌+◌, ◌-◌, ◌*◌, ℕ, ◌++◌, length, take, drop, replicate, ap, ◌∙◌, arith}
+use Rattle.std.proofs.Common.{◌≡◌, ◌*◌, ℕ, length, take, drop, replicate, ap, ◌∙◌, arith}
 use Rattle.eleos_base.specs.AesState.{mix_columns}
 use Rattle.eleos_lanes.proofs.Fronts.{block_before, block_in_front}
 use Rattle.eleos_lanes.proofs.bytes.mix_part.Goals as goal

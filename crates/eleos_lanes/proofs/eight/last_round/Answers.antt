@@ -1,5 +1,5 @@
 use Rattle.std.proofs.Common.{ap, ◌∙◌}
-use Rattle.eleos_base.specs.AesState.{mix_columns, shift_rows}
+use Rattle.eleos_base.specs.AesState.{shift_rows}
 use Rattle.eleos_lanes.specs.Planes.{add_block, block_at, vectors}
 use Rattle.eleos_lanes.proofs.eight.last_round.Goals as goal
 

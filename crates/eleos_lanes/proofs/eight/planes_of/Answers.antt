@@ -1,6 +1,5 @@
-use Rattle.std.proofs.Common.{◌≡◌, ℕ, ◌+◌, ◌*◌, ◌<◌, [], length, take, drop, get_or, ap, sym, ◌∙◌, arith, length-take, length-drop}
+use Rattle.std.proofs.Common.{◌≡◌, ℕ, ◌+◌, ◌*◌, ◌<◌, [], length, take, drop, get_or, ap, ◌∙◌, arith, length-take, length-drop}
 use Rattle.std.proofs.lemmas.List.{get_or-take, get_or-drop}
-use Rattle.eleos_lanes.specs.Planes.{vectors}
 use Rattle.eleos_lanes.proofs.Mirrors.{mirrored_block, vector_at}
 use Rattle.eleos_lanes.proofs.eight.planes_of.Goals as goal
 
@@ -13,4 +12,4 @@ returns c b low =
     let fits : (i : ℕ) → i < 16 → get_or (get_or c.vectors.result b []) i 0 < 256 =
     λ i below.
     omega (arith, ap (λ xs. get_or xs i 0) own, get_or-take 16 (drop (16 * b) blocks) i 0 below, get_or-drop (16 * b) blocks i 0, c.fits-blocks (16 * b + i)) in
-    mirrored_block c.mirrored.result c.vectors.result b c.mirrored.ensures low long fits ∙ own
+    mirrored_block c.to_planes.result c.vectors.result b c.to_planes.ensures low long fits ∙ own

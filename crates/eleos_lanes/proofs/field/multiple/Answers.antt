@@ -1,7 +1,6 @@
-use Rattle.std.proofs.Common.{◌≡◌, ◌/◌, ◌^◌, bit_and, bit_xor, ap, ap₂, ◌∙◌, sym}
+use Rattle.std.proofs.Common.{bit_xor, ap, ap₂, ◌∙◌, sym}
 use Rattle.std.proofs.lemmas.Nat.{and_mask}
 use Rattle.std.proofs.lemmas.Nat.Bits.{shr_and_one, bit_at_lowest}
-use Rattle.std.specs.Int.{bit_at}
 use Rattle.std.specs.Int.Bits.{xor_zero_r}
 use Rattle.eleos_base.specs.BlockField.{times_bits, times_x, where_set}
 use Rattle.eleos_lanes.proofs.field.multiple.Goals as goal

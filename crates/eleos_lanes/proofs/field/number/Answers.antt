@@ -1,4 +1,4 @@
-use Rattle.std.proofs.Common.{◌≡◌, ◌<◌, ◌∙◌, sym, arith, Fits, w8}
+use Rattle.std.proofs.Common.{◌<◌, ◌∙◌, sym, arith, Fits, w8}
 use Rattle.std.proofs.lemmas.Simd.{Each1-weaker}
 use Rattle.eleos_base.specs.BlockField.{number_of}
 use Rattle.eleos_lanes.proofs.Values.{value_of_block}

@@ -1,4 +1,4 @@
-use Rattle.std.proofs.Common.{◌≡◌, ℕ, ◌-◌, ◌^◌, get_or, replicate, bit_xor, ap, ap₂, refl, ◌∙◌, arith}
+use Rattle.std.proofs.Common.{ℕ, get_or, replicate, bit_xor, ap, ◌∙◌, arith}
 use Rattle.std.proofs.lemmas.Simd.{get_or-zip2, get_or-replicate, length-replicate}
 use Rattle.std.proofs.lemmas.Nat.Bits.{bit_at_ones}
 use Rattle.std.specs.Int.{bit_at}

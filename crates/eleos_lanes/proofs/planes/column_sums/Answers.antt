@@ -1,5 +1,5 @@
 use Rattle.std.proofs.Common.{◌≡◌, ◌<◌, refl, ap₂, ◌∙◌, arith}
-use Rattle.eleos_lanes.specs.Planes.{differ, lane_bit, turned}
+use Rattle.eleos_lanes.specs.Planes.{differ, turned}
 use Rattle.eleos_lanes.proofs.planes.column_sums.Goals as goal
 
 pub returns-clause-pair : goal.returns-clause-pair

@@ -1,8 +1,7 @@
 use Rattle.std.proofs.Common.{◌≡◌, ℕ, ◌<◌, [], ◌∷◌, bit_xor, refl, ap, ap₂, ◌∙◌, arith}
 use Rattle.std.proofs.lemmas.Nat.Bits.{bit_at-lt}
 use Rattle.eleos_base.specs.ByteField.{product}
-use Rattle.eleos_base.specs.AesState.{mix_columns}
-use Rattle.eleos_lanes.specs.Planes.{block_at, differ, lane_bit, plane_bit, plane_byte, turned}
+use Rattle.eleos_lanes.specs.Planes.{block_at, differ, lane_bit, lane_of, plane_bit, plane_byte, turned}
 use Rattle.eleos_lanes.proofs.Bits.{same_byte, sixteen}
 use Rattle.eleos_lanes.proofs.MixedBytes.{byte_of-differ, differ-lt, mixed_byte, mixed_on_bits, mixed_state, plane_byte-lt}
 use Rattle.eleos_lanes.proofs.planes.mix_planes.Goals as goal
@@ -41,6 +40,7 @@ pub returns : goal.returns
 unfolding block_at
 returns c b low =
     let v = c.args.v in
-    sixteen _ (λ i. mixed_byte (plane_byte v b i) (plane_byte v b (turned i 1)) (plane_byte v b (turned i 2)) (plane_byte v b (turned i 3)))
-    (λ i below. mixed c b i below)
+    let at : ℕ → ℕ =
+    λ i. mixed_byte (plane_byte v b i) (plane_byte v b (turned i 1)) (plane_byte v b (turned i 2)) (plane_byte v b (turned i 3)) in
+    sixteen _ (λ i. at (lane_of i)) (λ i below. mixed c b (lane_of i) (omega arith))
     ∙ mixed_state (plane_byte v b) (plane_byte-lt v b)

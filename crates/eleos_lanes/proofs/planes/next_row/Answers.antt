@@ -1,4 +1,4 @@
-use Rattle.std.proofs.Common.{◌+◌, ◌*◌, ◌/◌, ◌%◌, arith}
+use Rattle.std.proofs.Common.{arith}
 use Rattle.eleos_lanes.specs.Planes.{turned}
 use Rattle.eleos_lanes.proofs.Bits.{lane_of_swizzled}
 use Rattle.eleos_lanes.proofs.planes.next_row.Goals as goal

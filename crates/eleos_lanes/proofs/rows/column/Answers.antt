@@ -1,4 +1,4 @@
-use Rattle.std.proofs.Common.{◌≡◌, ℕ, ◌<◌, [], ◌∷◌, get_or, refl}
+use Rattle.std.proofs.Common.{◌≡◌, ℕ, [], ◌∷◌, get_or, refl}
 use Rattle.eleos_lanes.proofs.Bits.{below_sixteen}
 use Rattle.eleos_lanes.proofs.rows.column.Goals as goal
 

@@ -1,4 +1,4 @@
-use Rattle.std.proofs.Common.{◌≡◌, ◌+◌, ◌*◌, length, take, drop, ap, sym, ◌∙◌, arith}
+use Rattle.std.proofs.Common.{ap, sym, ◌∙◌, arith}
 use Rattle.eleos_base.specs.AesCipher.{aes}
 use Rattle.eleos_lanes.proofs.Fronts.{block_range}
 use Rattle.eleos_aes.proofs.cipher.Aes.encrypt_four.Goals as goal

@@ -1,4 +1,4 @@
-use Rattle.std.proofs.Common.{◌≡◌, ◌<◌, length, bit_xor, ap, ap₂, ◌∙◌, sym, arith}
+use Rattle.std.proofs.Common.{◌<◌, bit_xor, ap, ◌∙◌, arith}
 use Rattle.std.proofs.lemmas.Simd.{Each1-from_get_or}
 use Rattle.std.specs.Simd.Lanes.{zip2}
 use Rattle.eleos_base.specs.BlockField.{number_of, product}

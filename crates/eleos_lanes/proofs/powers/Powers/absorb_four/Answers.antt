@@ -1,10 +1,10 @@
-use Rattle.std.proofs.Common.{◌≡◌, ℕ, ◌+◌, ◌*◌, ◌<◌, List, bit_xor, length, take, drop, get_or, ap, ap₂, sym, ◌∙◌, arith, length-take, length-drop}
+use Rattle.std.proofs.Common.{◌≡◌, ◌<◌, bit_xor, length, take, drop, ap, ap₂, sym, ◌∙◌, arith, length-take}
 use Rattle.std.proofs.lemmas.List.{drop-drop, get_or-take, take-take}
 use Rattle.std.proofs.lemmas.Simd.{Each1-from_get_or}
 use Rattle.std.specs.Simd.Lanes.{zip2}
 use Rattle.eleos_base.specs.BlockField.{number_of, power, product}
 use Rattle.eleos_base.specs.Ghash.{blocks}
-use Rattle.eleos_lanes.proofs.PowerLemmas.{absorbed, sum_of_four}
+use Rattle.eleos_lanes.proofs.PowerLemmas.{absorbed}
 use Rattle.eleos_lanes.proofs.Values.{number-xor}
 use Rattle.eleos_lanes.proofs.powers.Powers.absorb_four.Goals as goal
 

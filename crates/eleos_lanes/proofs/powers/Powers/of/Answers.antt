@@ -1,5 +1,5 @@
-use Rattle.std.proofs.Common.{◌≡◌, sym, ap, ap₂, subst, ◌∙◌, arith}
-use Rattle.eleos_base.specs.BlockField.{number_of, power, product}
+use Rattle.std.proofs.Common.{ap, ap₂, ◌∙◌, arith}
+use Rattle.eleos_base.specs.BlockField.{number_of, product}
 use Rattle.eleos_lanes.proofs.Values.{number-block}
 use Rattle.eleos_lanes.proofs.PowerLemmas.{powers_from}
 use Rattle.eleos_lanes.proofs.powers.Powers.of.Goals as goal

@@ -1,11 +1,10 @@
-use Rattle.std.proofs.Common.{◌≡◌, ◌+◌, ◌-◌, ◌*◌, ◌^◌, ◌<◌, bit_xor, get_or, length, refl, ap, sym, ◌∙◌, arith, Fits, w8}
+use Rattle.std.proofs.Common.{◌≡◌, ◌+◌, ◌-◌, ◌^◌, ◌<◌, get_or, length, ap, sym, ◌∙◌, arith, Fits, w8}
 use Rattle.std.proofs.lemmas.List.{length-map}
 use Rattle.std.proofs.lemmas.Simd.{Each1-weaker}
-use Rattle.eleos_base.specs.BlockField.{block_of, number_of, times_bits}
-use Rattle.eleos_lanes.specs.Rows.{row, value}
+use Rattle.eleos_base.specs.BlockField.{block_of, times_bits}
+use Rattle.eleos_lanes.specs.Rows.{row}
 use Rattle.eleos_lanes.proofs.RowSums.{product_by_bytes, rows_from, rows_from_all, rows_from_end, rows_from_next}
-use Rattle.eleos_lanes.proofs.Sums.{IsSum, no_rows, sum_step}
-use Rattle.eleos_lanes.proofs.Values.{times_x8}
+use Rattle.eleos_lanes.proofs.Sums.{no_rows, sum_step}
 use Rattle.eleos_lanes.proofs.rows.Rows.product.Goals as goal
 
 pub loop-j-init : goal.loop-j-init
