@@ -1,5 +1,7 @@
 pub mod Answers
+mod DigitValues
 mod Ended
+mod HexPairs
 pub mod Inversion
 mod Numerals
 mod Others

@@ -1,9 +1,10 @@
 -- Parts of a text.
-use Rattle.std.proofs.Common.{◌≡◌, ℕ, ◌+◌, ◌<◌, ◌≤◌, List, [], ◌∷◌, Some, None, true, false, Bool, length, take, drop, arith, nat_lt, cond}
+use Rattle.std.proofs.Common.{get_or, Option, refl, sym, ◌≡◌, ℕ, ◌+◌, ◌<◌, ◌≤◌, List, [], ◌∷◌, Some, None, true, false, Bool, length, take, drop, arith, nat_lt, cond}
 use Rattle.std.specs.List.{slice_split, position, position_or_len, onto_first}
 use Rattle.eleos_texts.specs.Fields.{is_newline}
 use Rattle.std.proofs.lemmas.Bool.Decides.{nat_tests}
-use Rattle.std.proofs.lemmas.List.Sums.{fails_before_first}
+use Rattle.std.proofs.lemmas.List.Sums.{fails_before_first, position_or_len_is}
+use Rattle.memchr.specs.Find.{IsFirstByte}
 use Rattle.std.proofs.lemmas.List.Splits.{slice_split_first, slice_split_none}
 
 none_le : (a b : ℕ) → cond (nat_lt a b) (Some a) None ≡ None → b ≤ a
@@ -34,3 +35,23 @@ split_cases P each (c ∷ cs) = by (is_newline c) (split_cases (λ parts. P (ont
   by : (b : Bool) → P (onto_first c (slice_split is_newline cs)) → P (cond b ([] ∷ slice_split is_newline cs) (onto_first c (slice_split is_newline cs)))
   by true rest = each [] (slice_split is_newline cs)
   by false rest = rest
+
+not_true : (b : Bool) → (b ≡ true → ⊥) → b ≡ false
+not_true true fails = absurd (fails refl)
+not_true false fails = refl
+
+at_place : (a n : ℕ) → a < n → nat_lt a n ≡ true
+at_place a n lt = grind (arith, nat_tests)
+
+at_end : (n : ℕ) → nat_lt n n ≡ false
+at_end n = grind (arith, nat_tests)
+
+-- the first byte that passes stands where it is looked for
+pub position_is : (p : ℕ → Bool) (text : List ℕ) (found : Option ℕ) → IsFirstByte p text found → found ≡ position p text
+position_is p text None none =
+    let last : position_or_len p text ≡ length text = position_or_len_is p text (length text) 0 (omega arith) (λ k lt. not_true (p (get_or text k 0)) (none k (omega arith) lt)) (λ lt. absurd (omega (arith, lt))) in
+    sym (rw (last, at_end (length text)) refl)
+position_is p text (Some k) first =
+    let within : k < length text = first.0.high in
+    let at : position_or_len p text ≡ k = position_or_len_is p text k 0 (omega (arith, within)) (λ i lt. not_true (p (get_or text i 0)) (first.0.before i (omega arith) lt)) (λ lt. first.1) in
+    sym (rw (at, at_place k (length text) within) refl)

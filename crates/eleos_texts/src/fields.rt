@@ -6,6 +6,7 @@ ghost use Rattle.eleos_texts.specs.Fields.{is_name, is_name_char, hex_bytes};
 ghost use Rattle.std.specs.List.{list_all};
 ghost use Rattle.std.specs.Char.{is_ascii_digit};
 
+use crate::digits;
 use eleos_base::{Bytes, NoMemory};
 use std::alloc::Global;
 
@@ -109,6 +110,9 @@ pub fn hex_bytes(alloc: Global, text: &[u8]) -> Result<Option<Bytes>, NoMemory>
     }
     if text.is_empty() {
         return Ok(None);
+    }
+    if let Some(bytes) = digits::bytes_of(alloc, text)? {
+        return Ok(Some(Bytes::of(bytes)));
     }
     match hex::decode(alloc, text) {
         Ok(bytes) => Ok(Some(Bytes::of(bytes))),

@@ -2,6 +2,7 @@
 #![tactic(auto)]
 
 pub mod counts;
+mod digits;
 mod ends;
 pub mod fields;
 pub mod printing;

@@ -4,6 +4,7 @@ ghost use Rattle.std.specs.Prelude.{IfOk, MatchOption, IfSome};
 ghost use Rattle.std.specs.List.{slice_split, position};
 ghost use Rattle.eleos_texts.specs.Fields.{is_newline, is_blank};
 
+use memchr::memchr;
 use std::alloc::{AllocError, Global};
 
 /// The first line, and what stands behind its newline.
@@ -20,7 +21,7 @@ pub fn first_line(text: &[u8]) -> Option<(&[u8], &[u8])>
 fn newline_at(text: &[u8]) -> Option<usize>
     ensures { result ≡ position is_newline text.now }
 {
-    text.iter().position(|c| *c == b'\n')
+    memchr(b'\n', text)
 }
 
 /// The words of a line.

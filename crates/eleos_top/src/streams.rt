@@ -4,6 +4,7 @@ ghost use Rattle.std.specs.Io.KnownBytes.{Appends};
 ghost use Rattle.eleos_base.specs.Outside.{HasRisen};
 
 use eleos_base::{Failed, Sink, Source};
+use memchr::memchr;
 use std::alloc::Global;
 
 /// Most bytes of an input.
@@ -80,7 +81,7 @@ fn line_end(text: &[u8], from: usize) -> usize
     ensures later { from < result }
     ensures within { result ≤ length text.now }
 {
-    match text[from..].iter().position(|c| *c == b'\n') {
+    match memchr(b'\n', &text[from..]) {
         Some(count) => from + count + 1,
         None => text.len(),
     }
