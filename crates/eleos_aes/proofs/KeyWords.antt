@@ -67,6 +67,7 @@ key_of-expanded key words k size expanded =
     sym (take-take k m words (omega arith)) ∙ ap (take k) expanded ∙ take-first_words key m k (omega arith) in
     rw front (flat-first_words key k (omega arith) ∙ take_all (4 * k) key (omega arith))
 
+-- words that begin with the expansion of a key of a good length are an expanded key
 pub IsExpanded_from : (key : List ℕ) (words : List (List ℕ)) (k : ℕ) → k ≡ length key / 4 → IsKeyLength (length key)
     → take (4 * (k + 7)) words ≡ first_words key (4 * (k + 7)) → IsExpanded k words
 IsExpanded_from key words k count is expanded =

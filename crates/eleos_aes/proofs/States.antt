@@ -19,6 +19,7 @@ round_key-take words m n le =
     ap (take 4) (drop-take (4 * n) (m - 4 * n) words) ∙ take-take 4 (m - 4 * n) (drop (4 * n) words) (omega arith) in
     rw split at front
 
+-- the words behind the last round key of n rounds do not matter to these rounds
 pub rounds-take : (words : List (List ℕ)) (block : List ℕ) (m n : ℕ) → 4 * n + 4 ≤ m → rounds (take m words) block n ≡ rounds words block n
 unfolding rounds
 rounds-take words block m zero le = ap (add_round_key block) (round_key-take words m 0 le)

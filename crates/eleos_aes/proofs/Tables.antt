@@ -8,5 +8,6 @@ table_is_power : agree (λ j. slice_index POWERS j) (power 2) 10 ≡ true
 unfolding product power
 table_is_power = refl
 
+-- entry j of the table is 2 to the power j in the field of bytes
 pub power_at : (j : ℕ) → j < 10 → slice_index POWERS j ≡ power 2 j
 power_at = agree_at (λ j. slice_index POWERS j) (power 2) 10 table_is_power

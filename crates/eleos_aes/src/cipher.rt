@@ -1,5 +1,6 @@
 // The cipher.
-ghost use Rattle.std.specs.Prelude.{◌≡◌, ◌↔◌, ℕ, ◌+◌, ◌*◌, ◌/◌, ◌<◌, ◌≤◌, List, length, IfOk, IsErr, IsTrue, slice_range, take, drop};
+ghost use Rattle.std.specs.Prelude.{◌≡◌, ◌↔◌, ℕ, ◌+◌, ◌*◌, ◌/◌, ◌<◌, ◌≤◌, List, length, IfOk};
+ghost use Rattle.std.specs.Prelude.{IsErr, IsTrue, slice_range, take, drop};
 ghost use Rattle.eleos_base.specs.AesKey.{IsKeyLength};
 ghost use Rattle.eleos_base.specs.AesCipher.{aes, last_round, rounds};
 ghost use Rattle.eleos_lanes.specs.Planes.{block_at};

@@ -1,6 +1,7 @@
 // The key expansion.
 ghost use Rattle.std.specs.Prelude.{◌≡◌, ◌+◌, ◌-◌, ◌*◌, ◌/◌, ◌<◌, ◌≤◌, [], ◌∷◌, length, take};
-ghost use Rattle.eleos_base.specs.AesKey.{IsKeyLength, round_constant, word_change, next_word, key_word, word_after, first_words, sub_word, xor_word};
+ghost use Rattle.eleos_base.specs.AesKey.{IsKeyLength, round_constant, word_change, next_word};
+ghost use Rattle.eleos_base.specs.AesKey.{key_word, word_after, first_words, sub_word, xor_word};
 
 use eleos_lanes::sub_bytes;
 

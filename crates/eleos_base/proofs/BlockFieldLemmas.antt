@@ -51,6 +51,7 @@ split_top n s below =
     let sum : bit_xor 1 0 * 2 ^ n + bit_xor 0 s ≡ 2 ^ n + s = omega arith in
     sym (ap₂ bit_xor left right) ∙ whole ∙ sum
 
+-- functions that keep sums and agree at 0 and at each power of two below 2 ^ n agree at each number below 2 ^ n
 pub same_from_powers : (f g : ℕ → ℕ) → KeepsSums f → KeepsSums g → f 0 ≡ g 0 → (n : ℕ) → ((i : ℕ) → i < n → f (2 ^ i) ≡ g (2 ^ i))
     → (x : ℕ) → x < 2 ^ n → f x ≡ g x
 same_from_powers f g sum_f sum_g none zero on x below =
@@ -71,6 +72,7 @@ same_from_powers f g sum_f sum_g none (suc n) on x below =
 
 -- ---- times x
 
+-- times x as a sum: the number shifted by one bit, and R where a bit fell out
 pub times_x_is : (v : ℕ) → times_x v ≡ bit_xor (v / 2) (where_set (v % 2) reduction)
 unfolding times_x where_set
 times_x_is v = elim (eqb (v % 2) 1) as (λ b. cond b (bit_xor (v / 2) reduction) (v / 2) ≡ bit_xor (v / 2) (cond b reduction 0)) [ true ↦ refl | false ↦ sym (xor_zero_r (v / 2)) ]
@@ -99,6 +101,7 @@ pub times_x-lt : (v : ℕ) → v < 2 ^ 128 → times_x v < 2 ^ 128
 times_x-lt v below =
     rw (times_x_is v) (xor_lt 128 (v / 2) (where_set (v % 2) reduction) (omega arith) (where_set-lt (v % 2) reduction 128 reduction-lt))
 
+-- a sum times x^n is the sum of the two products
 pub times_power_of_x-xor : (n : ℕ) → KeepsSums (times_power_of_x n)
 unfolding times_power_of_x
 times_power_of_x-xor zero v w = refl
@@ -139,6 +142,7 @@ times_bits-zero zero u = refl
 times_bits-zero (suc n) u =
     ap₂ bit_xor (sym (where_set_at (λ x. 0) (bit_at u n) 0 refl)) (ap (times_bits n u) times_x-zero ∙ times_bits-zero n u)
 
+-- a block times any bits is a block
 pub times_bits-lt : (n u v : ℕ) → v < 2 ^ 128 → times_bits n u v < 2 ^ 128
 unfolding times_bits
 times_bits-lt zero u v below = omega arith
@@ -146,6 +150,7 @@ times_bits-lt (suc n) u v below =
     xor_lt 128 (where_set (bit_at u n) v) (times_bits n u (times_x v)) (where_set-lt (bit_at u n) v 128 below)
     (times_bits-lt n u (times_x v) (times_x-lt v below))
 
+-- a factor x may stand at the second factor or before the product
 pub times_bits-times_x : (n u v : ℕ) → times_bits n u (times_x v) ≡ times_x (times_bits n u v)
 unfolding times_bits
 times_bits-times_x zero u v = sym times_x-zero
@@ -168,6 +173,7 @@ times_bits_half n u v below =
     let none : bit_at (u / 2) n ≡ 0 = sym (bit_at-suc u n) ∙ bit_at_above u (suc n) (suc n) below (omega arith) in
     rw none (times_bits-times_x n (u / 2) v)
 
+-- 0 times x^n is 0
 pub times_power_of_x-zero : (n : ℕ) → times_power_of_x n 0 ≡ 0
 unfolding times_power_of_x
 times_power_of_x-zero zero = refl
@@ -204,6 +210,7 @@ times_x-product : (u v : ℕ) → u < 2 ^ 128 → v < 2 ^ 128 → product (times
 unfolding product
 times_x-product u v below_u below_v = times_x-times_bits 127 u v below_u (reduction_is v below_v)
 
+-- a sum as first factor gives the sum of the two products
 pub product-xor_left : (u w v : ℕ) → product (bit_xor u w) v ≡ bit_xor (product u v) (product w v)
 unfolding product
 product-xor_left u w v = times_bits-xor_left 128 u w v
@@ -212,10 +219,12 @@ pub product-xor : (u v w : ℕ) → product u (bit_xor v w) ≡ bit_xor (product
 unfolding product
 product-xor u v w = times_bits-xor 128 u v w
 
+-- 0 as first factor gives 0
 pub product-zero_left : (v : ℕ) → product 0 v ≡ 0
 unfolding product
 product-zero_left v = times_bits-zero_left 128 v
 
+-- a product whose second factor is a block is a block
 pub product-lt : (u v : ℕ) → v < 2 ^ 128 → product u v < 2 ^ 128
 unfolding product
 product-lt u v below = times_bits-lt 128 u v below
@@ -232,6 +241,7 @@ pub product_is : (u v : ℕ) → product u v ≡ times_bits 128 u v
 unfolding product
 product_is u v = refl
 
+-- of three factors, the last two of them blocks, either pair may be multiplied first
 pub product_assoc : (u v w : ℕ) → v < 2 ^ 128 → w < 2 ^ 128 → product (product u v) w ≡ product u (product v w)
 product_assoc u v w below_v below_w =
     ap (λ x. product x w) (product_is u v) ∙ product-times_bits 128 u v w below_v below_w ∙ sym (product_is u (product v w))
@@ -240,6 +250,7 @@ one-lt : one < 2 ^ 128
 unfolding one
 one-lt = omega arith
 
+-- the powers of a block are blocks
 pub power-lt : (h n : ℕ) → h < 2 ^ 128 → power h n < 2 ^ 128
 unfolding power
 power-lt h zero below = one-lt
@@ -249,6 +260,7 @@ ones_on_powers : agree (λ i. times_bits 128 (2 ^ i) one) (λ i. 2 ^ i) 128 ≡ 
 unfolding times_bits where_set times_x reduction one
 ones_on_powers = refl
 
+-- a block times the block 1 is that block
 pub product-one : (u : ℕ) → u < 2 ^ 128 → product u one ≡ u
 unfolding product
 product-one u below =

@@ -74,6 +74,7 @@ gctr_blocks_twice key counter (suc n) text le =
     (ap₂ ◌++◌ (xor_front_twice front stream enough) (gctr_blocks_twice key (inc32 counter) n behind fits)
     ∙ take-append-drop 16 text)
 
+-- a ciphertext is as long as its plaintext
 pub length-ciphertext_of : (key nonce text : List ℕ) → length (ciphertext_of key nonce text) ≡ length text
 unfolding ciphertext_of gctr
 length-ciphertext_of key nonce text =

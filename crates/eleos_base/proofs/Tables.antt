@@ -7,6 +7,7 @@ abbrev pub agree : (ℕ → ℕ) → (ℕ → ℕ) → ℕ → Bool
 agree f g zero = true
 agree f g (suc n) = eqb (f n) (g n) && agree f g n
 
+-- where the test finds that two functions agree below n, they have the same value at each place below n
 pub agree_at : (f g : ℕ → ℕ) (n : ℕ) → agree f g n ≡ true → (i : ℕ) → i < n → f i ≡ g i
 agree_at f g zero test i below = absurd (omega arith)
 agree_at f g (suc n) test i below =

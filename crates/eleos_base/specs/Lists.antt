@@ -10,3 +10,9 @@ map_from f i (x ∷ xs) = f i x ∷ map_from f (i + 1) xs
 unfoldable pub first_from : (ℕ → Bool) → ℕ → ℕ → Option ℕ
 first_from test zero i = None
 first_from test (suc count) i = if test i then Some i else first_from test count (i + 1)
+
+-- the last item, where there is one
+abbrev pub last_of : {A : Type 0} → List A → Option A
+last_of [] = None
+last_of (x ∷ []) = Some x
+last_of (x ∷ xs) = last_of xs

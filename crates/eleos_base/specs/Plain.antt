@@ -70,6 +70,7 @@ abbrev pub with_block : Live → List Live → List Live
 with_block block [] = block ∷ []
 with_block block (other ∷ others) = if nat_lt block.start other.start then block ∷ other ∷ others else other ∷ with_block block others
 
+-- the sizes that a block may have: 1 to 65536 bytes
 abbrev pub is_good_size : ℕ → Bool
 is_good_size bytes = nat_le 1 bytes && nat_le bytes 65536
 

@@ -26,6 +26,7 @@ pub record IsCaller (plan : Plan) (who : ℕ) : Type 0 where
   pub from_one : 1 ≤ who
   pub within : who ≤ length plan.callers
 
+-- each enclave has 1 to 1024 pages
 abbrev pub AreGoodPages : List EnclavePlan → Type 0
 AreGoodPages enclaves = All (λ enclave. (1 ≤ enclave.pages) × (enclave.pages ≤ 1024)) enclaves
 

@@ -5,6 +5,7 @@ use Rattle.std.specs.Prelude.{◌≡◌, ℕ, Bool, ◌==◌, ◌||◌, nat_lt, 
 abbrev pub IsBusy : ℕ → Type 0
 IsBusy n = n % 2 ≡ 1
 
+-- the same as a test
 abbrev pub is_busy : ℕ → Bool
 is_busy n = n % 2 == 1
 

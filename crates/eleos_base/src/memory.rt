@@ -10,7 +10,8 @@ pub struct Addr {
     pub at: u32,
 }
 
-/// A live block of an enclave: a run of whole sub-pages, counted from the enclave's first, and who may use it.
+/// A live block of an enclave: a run of whole sub-pages, counted from the enclave's first, and who
+/// may use it.
 /// A shared block is used by every caller of the enclave and freed by its owner alone.
 /// Owner 0 is nobody: such a block is shared from the start and never freed.
 #[derive(Clone, Copy, Debug, PartialEq, Eq)]

@@ -19,7 +19,8 @@ pub struct BlockPlan {
     pub owner: u32,
 }
 
-/// A machine before its first event. Caller k, from 1, belongs to the enclave with the number `callers[k - 1]`.
+/// A machine before its first event. Caller k, from 1, belongs to the enclave with the number
+/// `callers[k - 1]`.
 #[derive(Debug, Drop)]
 pub struct Plan {
     pub enclaves: List<EnclavePlan>,

@@ -14,7 +14,8 @@ pub enum Tied {
     Takes,
 }
 
-/// An entry of the history, and the parts that it leaves in the cells of its foot. No value of it is made.
+/// An entry of the history, and the parts that it leaves in the cells of its foot. No value of it
+/// is made.
 pub struct Event<D, Q> {
     pub entry: D,
     pub kept: LinkedList<(u32, Q)>,

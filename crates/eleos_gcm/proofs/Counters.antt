@@ -143,6 +143,7 @@ pub record IsUnderWay (key first : List ℕ) (old counter text : List ℕ) (at :
   pub parts : (m : ℕ) → length old ≤ at + 16 * m
       → take at text ++ gctr_blocks key counter m (drop at text) ≡ gctr key first old
 
+-- before the first step nothing is done, and all is to be done from the first counter on
 pub none_yet : (key first old : List ℕ) → IsUnderWay key first old first old 0
 unfolding gctr
 none_yet key first old =
@@ -154,6 +155,7 @@ none_yet key first old =
           ap (λ k. gctr_blocks key first k old) (sym split) ∙ gctr_enough key first n (m - n) old (omega arith));
     }
 
+-- up to eight blocks more were added to the stream from the counter on: so much more is done, and the counter is eight later
 pub one_more : (key first old counter text part : List ℕ) (at k : ℕ) → k ≡ min (length old - at) 128
     → part ≡ zip2 bit_xor (take k (drop at text)) (take k (stream key counter 8))
     → IsUnderWay key first old counter text at
@@ -195,12 +197,14 @@ one_more key first old counter text part at k width is under =
           ∙ under.parts (8 + m) (omega (arith, width)));
     }
 
+-- a text that is done up to its end is the old one under GCTR
 pub all_done : (key first old counter text : List ℕ) (at : ℕ) → length old ≤ at
     → IsUnderWay key first old counter text at → text ≡ gctr key first old
 unfolding gctr_blocks
 all_done key first old counter text at last under =
     sym (append-nil (take at text) ∙ take_all at text (omega (arith, under.size))) ∙ under.parts 0 (omega arith)
 
+-- the counter that is n later, with one added, is the one that is n + 1 later
 pub later_next : (n : ℕ) (counter : List ℕ) → inc32 (later n counter) ≡ later (n + 1) counter
 unfolding later
 later_next n counter =

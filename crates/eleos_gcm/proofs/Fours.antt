@@ -12,6 +12,7 @@ pub record IsHashed (h start : ℕ) (bytes : List ℕ) (sum i : ℕ) : Type 0 wh
   pub rest : let n = block_count (length bytes) in
       horner h sum (blocks (n - i) (drop (16 * i) (padded bytes))) ≡ horner h start (blocks n (padded bytes))
 
+-- before the first block the hash is the one that it starts from
 pub none_hashed : (h start : ℕ) (bytes : List ℕ) → IsHashed h start bytes start 0
 none_hashed h start bytes =
     let n = block_count (length bytes) in
@@ -53,6 +54,7 @@ four_padded bytes at within =
     ap (take 64) (drop-append-le at bytes _ (omega arith))
     ∙ take-append-le 64 (drop at bytes) _ (omega (arith, length-drop at bytes))
 
+-- four blocks more are taken in, by the first four powers of the hash subkey
 pub four_hashed : (h start : ℕ) (bytes four : List ℕ) (sum next i : ℕ) → h < 2 ^ 128 → sum < 2 ^ 128 → 64 * i + 64 ≤ length bytes
     → four ≡ take 64 (drop (64 * i) bytes)
     → next ≡ bit_xor (product sum (power h 4)) (sum_of_powers h (blocks 4 four))
@@ -80,6 +82,7 @@ four_hashed h start bytes four sum next i below fits within is hash hashed =
           ∙ ap (λ k. horner h sum (blocks k rest)) (sym left) ∙ hashed.rest;
     }
 
+-- one block more is taken in, by the hash subkey alone
 pub one_hashed : (h start : ℕ) (bytes block : List ℕ) (sum next i : ℕ) → i < block_count (length bytes)
     → block ≡ take 16 (drop (16 * i) (padded bytes)) → next ≡ product (bit_xor sum (number_of block)) h
     → IsHashed h start bytes sum i → IsHashed h start bytes next (i + 1)
@@ -92,6 +95,7 @@ one_hashed h start bytes block sum next i below is hash hashed =
     let whole = rw left at hashed.rest in
     record { rest = rw (moved, hash, is) whole }
 
+-- after the last block the hash is that of the whole padded string
 pub all_hashed : (h start : ℕ) (bytes : List ℕ) (sum i : ℕ) → block_count (length bytes) ≤ i → IsHashed h start bytes sum i
     → sum ≡ horner h start (blocks (block_count (length bytes)) (padded bytes))
 unfolding horner blocks

@@ -10,6 +10,7 @@ use Rattle.eleos_gcm.proofs.HornerRule.{horner_from_zero, horner-append}
 abbrev then_hashed : ℕ → ℕ → List ℕ → ℕ
 then_hashed h sum bytes = horner h sum (blocks (block_count (length bytes)) (padded bytes))
 
+-- the hash of aad, text and a last block, one after another, is the sum of powers over all their blocks, aad and text padded
 pub hash_in_parts : (h : ℕ) (aad text last : List ℕ) → h < 2 ^ 128 → length last ≡ 16
     → then_hashed h (then_hashed h (then_hashed h 0 aad) text) last
     ≡ sum_of_powers h (blocks (length (padded aad ++ padded text ++ last) / 16) (padded aad ++ padded text ++ last))

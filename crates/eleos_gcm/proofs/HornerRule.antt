@@ -24,11 +24,13 @@ horner_is h sum (x ∷ xs) below fits =
     (product-power h (bit_xor sum x) (length xs) below ∙ product-xor_left sum x factor)
     ∙ xor_assoc (product sum factor) (product x factor) (sum_of_powers h xs)
 
+-- from 0 on the hash by Horner's rule is the sum of powers
 pub horner_from_zero : (h : ℕ) (xs : List ℕ) → h < 2 ^ 128 → horner h 0 xs ≡ sum_of_powers h xs
 horner_from_zero h xs below =
     horner_is h 0 xs below (omega arith)
     ∙ ap (λ y. bit_xor y (sum_of_powers h xs)) (product-zero_left (power h (length xs)))
 
+-- the hash of more blocks goes on from the hash of those before them
 pub horner-append : (h sum : ℕ) (xs ys : List ℕ) → horner h sum (xs ++ ys) ≡ horner h (horner h sum xs) ys
 unfolding horner
 horner-append h sum [] ys = refl

@@ -6,6 +6,7 @@ use Rattle.eleos_base.specs.Ghash.{blocks}
 use Rattle.eleos_base.specs.Gcm.{block_count, padded}
 use Rattle.eleos_base.specs.BlockField.{number_of}
 
+-- a padded string is as long as its blocks, 16 bytes each
 pub length-padded : (bytes : List ℕ) → length (padded bytes) ≡ 16 * block_count (length bytes)
 length-padded bytes =
     omega (arith, length-append bytes (replicate (16 * block_count (length bytes) - length bytes) 0), length-replicate {A = ℕ})

@@ -1,5 +1,6 @@
 // GHASH.
-ghost use Rattle.std.specs.Prelude.{◌≡◌, ◌+◌, ◌*◌, ◌%◌, ◌/◌, ◌^◌, ◌<◌, ◌≤◌, ◌++◌, length, take, drop};
+ghost use Rattle.std.specs.Prelude.{◌≡◌, ◌+◌, ◌*◌, ◌%◌, ◌/◌, ◌^◌, ◌<◌, ◌≤◌, ◌++◌, length, take};
+ghost use Rattle.std.specs.Prelude.{drop};
 ghost use Rattle.std.specs.Int.{w64, to_be_bytes};
 ghost use Rattle.eleos_base.specs.BlockField.{block_of, number_of};
 ghost use Rattle.eleos_base.specs.Ghash.{blocks, ghash, sum_of_powers};

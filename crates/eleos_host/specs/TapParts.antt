@@ -6,6 +6,7 @@ use Rattle.eleos_host.specs.declared.tap.Tap.TheInside.{Inside}
 use Rattle.eleos_host.specs.Taps.{TapState, HasSlots, IsAsItCame}
 
 module _ {P : Type 0} where
+  -- a tap as contracts see it: its port, how often it began, the bytes of its slots, where they are from, and the slot that is named
   abbrev pub tap_of : Inside P → TapState P
   tap_of t = record { port = t.port; begins = t.begins; blocks = t.blocks.items; states = t.states; failed = t.failed }
 

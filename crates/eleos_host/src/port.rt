@@ -12,7 +12,8 @@ pub trait HostStore: Drop {
     /// The blocks that it has and those that were kept, or None where it tells nothing.
     ghost store: { Self → Option Store };
 
-    /// The blocks that a port gave since `begin`, in order, told while there are at most `MOST_TOLD`.
+    /// The blocks that a port gave since `begin`, in order, told while there are at most
+    /// `MOST_TOLD`.
     ghost given: { Self → Option (List Placed) };
 
     /// The blocks that it took since `begin`, in the same way.

@@ -1,5 +1,6 @@
 // How many places a host has.
-ghost use Rattle.std.specs.Prelude.{◌≡◌, ◌≤◌, IfOk, OnErr, OnOk, is_ok, max, option_map, if◌then◌else◌};
+ghost use Rattle.std.specs.Prelude.{◌≡◌, ◌≤◌, IfOk, OnErr, OnOk, is_ok, max, option_map};
+ghost use Rattle.std.specs.Prelude.{if◌then◌else◌};
 ghost use Rattle.eleos_host.specs.Stores.{with_room};
 
 use crate::{HostSpace, HostStore};

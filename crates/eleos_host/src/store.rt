@@ -1,7 +1,8 @@
 // The blocks of a told host, and what each act makes of them.
 ghost use Rattle.std.specs.Prelude.{◌≡◌, ◌<◌, OnErr, OnOk};
 ghost use Rattle.eleos_host.specs.Blocks.{IsBlock};
-ghost use Rattle.eleos_host.specs.Stores.{blank_store, with_room, get_from, put_to, flipped, swapped, kept_at, kept_of, is_kept, restored};
+ghost use Rattle.eleos_host.specs.Stores.{blank_store, with_room, get_from, put_to, flipped};
+ghost use Rattle.eleos_host.specs.Stores.{swapped, kept_at, kept_of, is_kept, restored};
 
 use crate::BLOCK_BITS;
 use crate::block::{Block, ZEROS, add_copies};

@@ -38,7 +38,9 @@ impl<P> Model for Tap<P> {
 }
 
 impl<P: HostPort> Tap<P> {
-    ghost use Rattle.eleos_host.specs.Taps.{new_tap, block_of, HasSlots, IsIdle, IsAsItCame, with_port, begun, with_fetched, loosened, with_failed, failed_block};
+    ghost use Rattle.eleos_host.specs.Taps.{new_tap, block_of, HasSlots, IsIdle, IsAsItCame};
+    ghost use Rattle.eleos_host.specs.Taps.{with_port, begun, with_fetched, loosened, with_failed};
+    ghost use Rattle.eleos_host.specs.Taps.{failed_block};
     ghost use Rattle.eleos_host.specs.Loans.{LendsSlot};
 
     /// Takes the memory of all slots. On want of memory the port is dropped.

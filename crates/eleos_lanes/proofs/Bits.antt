@@ -14,9 +14,11 @@ same_byte e0 e1 e2 e3 e4 e5 e6 e7 =
     ap₂ (λ a s. a + 2 * s) e0 (ap₂ (λ a s. a + 2 * s) e1 (ap₂ (λ a s. a + 2 * s) e2 (ap₂ (λ a s. a + 2 * s) e3
     (ap₂ (λ a s. a + 2 * s) e4 (ap₂ (λ a s. a + 2 * s) e5 (ap₂ (λ a s. a + 2 * s) e6 e7))))))
 
+-- a bit of a sum is the sum of the two bits at its place
 pub bit_xor_at : (a b i : ℕ) → bit_at (bit_xor a b) i ≡ bit_xor (bit_at a i) (bit_at b i)
 bit_xor_at a b i = ap (λ x. x % 2) (xor_shr a b i) ∙ xor_mod (a / 2 ^ i) (b / 2 ^ i) 1
 
+-- the same of the bits that two numbers have in common
 pub bit_and_at : (a b i : ℕ) → bit_at (bit_and a b) i ≡ bit_and (bit_at a i) (bit_at b i)
 bit_and_at a b i = ap (λ x. x % 2) (and_shr a b i) ∙ and_mod (a / 2 ^ i) (b / 2 ^ i) 1
 

@@ -12,6 +12,7 @@ use Rattle.eleos_lanes.proofs.Bits.{bit_xor_at, bit_and_at}
 bit_at_shr : (a by j : ℕ) → bit_at (a / 2 ^ by) j ≡ bit_at a (by + j)
 bit_at_shr a by j = ap (λ x. x % 2) (shr-shr a by j)
 
+-- the lowest k bits of a number are those of what is left modulo 2 ^ k
 pub bit_at_mod : (n k i : ℕ) → i < k → bit_at (n % 2 ^ k) i ≡ bit_at n i
 bit_at_mod n k i below =
     ap (λ x. bit_at x i) (sym (and_mask n k)) ∙ bit_at_and n (2 ^ k - 1) i

@@ -28,6 +28,7 @@ map_same f g same (b ∷ bs) = ap₂ ◌∷◌ (same b) (map_same f g same bs)
 
 -- ---- the higher four bits
 
+-- the higher four bits of each byte are places in a vector of 16 lanes
 pub high_places : (v : List ℕ) → length v ≡ 16 → Each1 (Fits w8) v → SwzOk w8 16 16 0 (zip2 (λ a b. a / 2 ^ b) v (replicate 16 4))
 high_places v long fits =
     let len = length-zip2 (λ (a b : ℕ). a / 2 ^ b) v (replicate 16 4) (omega (arith, length-replicate {A = ℕ} 16 4)) in
@@ -35,6 +36,7 @@ high_places v long fits =
     (Each1-zip2 (λ a b. a / 2 ^ b) (λ j. j < 16) v (replicate 16 4)
     (Each2-splat (λ x y. x / 2 ^ y < 16) v 16 4 (Each1-weaker (Fits w8) (λ x. x / 2 ^ 4 < 16) (λ a f. omega (arith, f.fits)) v fits)))
 
+-- the lanes of a table that are taken by them are its entries at the higher four bits
 pub high_entries : (table v : List ℕ) → length v ≡ 16 → Each1 (Fits w8) v
     → swz_l w8 16 table 0 (zip2 (λ a b. a / 2 ^ b) v (replicate 16 4)) ≡ map (λ b. get_or table (b / 16) 0) v
 high_entries table v long fits =
@@ -48,6 +50,7 @@ high_entries table v long fits =
 
 -- ---- the lower four bits
 
+-- the lower four bits of each byte are places in a vector of 16 lanes
 pub low_places : (v : List ℕ) → length v ≡ 16 → SwzOk w8 16 16 0 (zip2 bit_and v (replicate 16 15))
 low_places v long =
     let len = length-zip2 bit_and v (replicate 16 15) (omega (arith, length-replicate {A = ℕ} 16 15)) in
@@ -55,6 +58,7 @@ low_places v long =
     (Each1-zip2 bit_and (λ j. j < 16) v (replicate 16 15)
     (Each2-splat (λ x y. bit_and x y < 16) v 16 15 (Each1-all (λ x. bit_and x 15 < 16) (λ a. omega (arith, and_le_r a 15)) v)))
 
+-- the lanes of a table that are taken by them are its entries at the lower four bits
 pub low_entries : (table v : List ℕ) → length v ≡ 16
     → swz_l w8 16 table 0 (zip2 bit_and v (replicate 16 15)) ≡ map (λ b. get_or table (b % 16) 0) v
 low_entries table v long =
@@ -79,6 +83,7 @@ byte_of_sum m n j below =
     (own 120) (own 112) (own 104) (own 96) (own 88) (own 80) (own 72) (own 64)
     (own 56) (own 48) (own 40) (own 32) (own 24) (own 16) (own 8) (sym (xor_mod m n 8)) j below
 
+-- the entries for the higher four bits of each byte plus those for the lower four are row j of the products with h
 pub row_of_entries : (h j : ℕ) (high low v : List ℕ) → j < 16 → Each1 (Fits w8) v
     → ((n : ℕ) → n < 16 → get_or high n 0 ≡ get_or (block_of (times_bits 4 n h)) j 0)
     → ((n : ℕ) → n < 16 → get_or low n 0 ≡ get_or (block_of (times_bits 4 n (times_power_of_x 4 h))) j 0)

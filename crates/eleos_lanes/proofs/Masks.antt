@@ -5,6 +5,7 @@ use Rattle.std.specs.Int.{bit_at}
 use Rattle.std.specs.Int.Bits.{xor_assoc}
 use Rattle.eleos_base.specs.BlockField.{where_set, times_x, times_bits}
 
+-- a block under a mask of 128 times one bit is the block where that bit is 1, and else 0
 pub masked : (bit v : ℕ) → bit < 2 → v < 2 ^ 128 → bit_and v ((0 + (2 ^ 128 - bit)) % 2 ^ 128) ≡ where_set bit v
 unfolding where_set
 masked zero v below fits = and_comm v 0

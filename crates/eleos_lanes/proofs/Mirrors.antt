@@ -60,6 +60,7 @@ row_written xs row k within long =
     sym (drop-take (16 * k) 16 all) ∙ sym (between_is all (16 * k) (16 * k + 16))
     ∙ between-put_mid (16 * k) 16 xs row (16 * k + 16) (omega arith) size
 
+-- a row before the one that was written is as it was
 pub row_kept : (xs row : List ℕ) (j k : ℕ) → j < k → 16 * k + 16 ≤ length xs
     → take 16 (drop (16 * j) (put_mid (16 * k) 16 xs row)) ≡ take 16 (drop (16 * j) xs)
 row_kept xs row j k before within =
@@ -67,6 +68,7 @@ row_kept xs row j k before within =
     ∙ ap (drop (16 * j)) (take-put_mid_below (16 * k) 16 xs row (16 * j + 16) (omega arith) (omega arith))
     ∙ drop-take (16 * j) 16 xs
 
+-- the bytes are as many after a row was written
 pub length-row_written : (xs row : List ℕ) (k : ℕ) → 16 * k + 16 ≤ length xs → length row ≡ 16
     → length (put_mid (16 * k) 16 xs row) ≡ length xs
 length-row_written xs row k within long =

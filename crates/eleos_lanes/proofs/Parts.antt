@@ -29,6 +29,7 @@ blocks_mapped old new long_old long_new are =
     ∙ byte_of_state (take 16 (drop (16 * (i / 16)) old)) (i % 16) (omega arith)
     ∙ ap s_box (byte_in_row old i) ∙ sym (get_or-map s_box old i 0 0 (omega arith)))
 
+-- the front of the changed items is the front of the items, changed
 pub take-map : (f : ℕ → ℕ) (n : ℕ) (xs : List ℕ) → take n (map f xs) ≡ map f (take n xs)
 take-map f zero xs = refl
 take-map f (suc n) [] = refl

@@ -10,6 +10,7 @@ use Rattle.eleos_lanes.specs.Rows.{ArePowers, row, value}
 use Rattle.eleos_lanes.proofs.RowSums.{length-row, rows_from, rows_from_end, rows_from_next}
 use Rattle.eleos_lanes.proofs.Values.{times_x8, value-zip2}
 
+-- the first power of a block is the block
 pub power_1 : (h : ℕ) → h < 2 ^ 128 → power h 1 ≡ h
 unfolding power
 power_1 h below = product-one h below
@@ -57,6 +58,7 @@ abbrev pub four_row : ℕ → ℕ → List ℕ → List ℕ → List ℕ → Lis
 four_row h j a b c d =
     zip2 bit_xor (zip2 bit_xor (row (power h 4) j a) (row (power h 3) j b)) (zip2 bit_xor (row (power h 2) j c) (row (power h 1) j d))
 
+-- a row of four products has 16 bytes
 pub length-four_row : (h j : ℕ) (a b c d : List ℕ) → length a ≡ 16 → length b ≡ 16 → length c ≡ 16 → length d ≡ 16
     → length (four_row h j a b c d) ≡ 16
 length-four_row h j a b c d la lb lc ld =
@@ -71,6 +73,7 @@ length-four_row h j a b c d la lb lc ld =
       length-zip2 bit_xor (zip2 bit_xor (row (power h 4) j a) (row (power h 3) j b)) (zip2 bit_xor (row (power h 2) j c) (row (power h 1) j d)) (omega arith),
     )
 
+-- the rows of four products from j on are those from j + 1 on, moved by a byte, plus row j
 pub four_next : (h j : ℕ) (a b c d : List ℕ) → j < 16 → length a ≡ 16 → length b ≡ 16 → length c ≡ 16 → length d ≡ 16
     → bit_xor (times_x8 (four_from h (j + 1) a b c d)) (value (four_row h j a b c d)) ≡ four_from h j a b c d
 four_next h j a b c d below la lb lc ld =
@@ -92,6 +95,7 @@ four_next h j a b c d below la lb lc ld =
     (ap₂ bit_xor (rows_from_next (power h 4) j a below) (rows_from_next (power h 3) j b below))
     (ap₂ bit_xor (rows_from_next (power h 2) j c below) (rows_from_next (power h 1) j d below))
 
+-- behind row 15 the rows of four products add nothing
 pub four_end : (h : ℕ) (a b c d : List ℕ) → 0 ≡ four_from h 16 a b c d
 four_end h a b c d =
     sym (ap₂ bit_xor
@@ -100,6 +104,8 @@ four_end h a b c d =
 
 -- ---- four blocks into a hash
 
+-- four blocks, each times its power, with the hash so far added to the first:
+-- the hash so far times the fourth power, plus the blocks' sum of powers
 pub absorbed : (h sum n : ℕ) (a b c d : ℕ)
     → sum_of_four (product (bit_xor sum a) (power h 4)) (product b (power h 3)) (product c (power h 2)) (product d (power h 1))
     ≡ bit_xor (product sum (power h 4)) (sum_of_powers h (a ∷ b ∷ c ∷ d ∷ []))

@@ -70,6 +70,7 @@ by_bytes_is h (b ∷ bs) fits =
     (times_bits-same k u (big bs) (times_power_of_x 8 h) (λ i low. bit_at_cat_low b k (big bs) i low)
     ∙ times_bits-power k 8 (big bs) h ∙ ap times_x8 (by_bytes_is h bs fits.1))
 
+-- the product of a block and h is the sum of the products of its bytes and h, each moved to its place
 pub product_by_bytes : (h : ℕ) (bs : List ℕ) → length bs ≡ 16 → Each1 (λ b. b < 256) bs → product (number_of bs) h ≡ by_bytes h bs
 unfolding product
 product_by_bytes h bs long fits =
@@ -100,6 +101,7 @@ rows_from_next h j (b ∷ bs) below =
     ∙ ap₂ bit_xor (xor_comm (times_x8 rest) own ∙ sym front)
     (sym (times_power_of_x-xor 8 more (value (row h j bs))) ∙ ap times_x8 (rows_from_next h j bs below))
 
+-- behind row 15 the rows of a product add nothing
 pub rows_from_end : (h : ℕ) (xs : List ℕ) → rows_from h 16 xs ≡ 0
 unfolding rows_from value times_power_of_x times_x
 rows_from_end h [] = refl
@@ -107,12 +109,14 @@ rows_from_end h (b ∷ bs) =
     let none = drop_all 16 (block_of (times_bits 8 b h)) (omega (arith, length-block_of (times_bits 8 b h))) in
     ap₂ (λ xs v. bit_xor (value xs) (times_x8 v)) none (rows_from_end h bs)
 
+-- all rows of a product together are the sum of the products of the bytes
 pub rows_from_all : (h : ℕ) (xs : List ℕ) → h < 2 ^ 128 → rows_from h 0 xs ≡ by_bytes h xs
 unfolding rows_from by_bytes
 rows_from_all h [] below = refl
 rows_from_all h (b ∷ bs) below =
     ap₂ bit_xor (value_of_number (times_bits 8 b h) (times_bits-lt 8 b h below)) (ap times_x8 (rows_from_all h bs below))
 
+-- a row has one byte for each byte of the block
 pub length-row : (h j : ℕ) (xs : List ℕ) → length (row h j xs) ≡ length xs
 unfolding row
 length-row h j xs = length-map xs (λ b. get_or (block_of (times_bits 8 b h)) j 0)

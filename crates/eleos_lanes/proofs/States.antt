@@ -14,6 +14,7 @@ pub record AreMixed (f : List ℕ → List ℕ) (old now : List ℕ) (at : ℕ) 
   pub done : (b : ℕ) → 16 * b + 16 ≤ at → take 16 (drop (16 * b) now) ≡ f (take 16 (drop (16 * b) old))
   pub rest : drop at now ≡ drop at old
 
+-- before the first part no state is changed
 pub none_mixed : (f : List ℕ → List ℕ) (old : List ℕ) → AreMixed f old old 0
 none_mixed f old = record { size = refl; within = omega arith; whole = refl; done = λ b none. absurd (omega arith); rest = refl }
 
@@ -34,6 +35,7 @@ row_inside xs part at k j within inside =
     ap (take 16) (sym (drop-drop (16 * j) at (put_mid at k xs part)) ∙ ap (drop (16 * j)) front)
     ∙ block_before j part (drop k (drop at xs)) inside
 
+-- the next k bytes are put, in which each state is changed: so far all states are changed
 pub more_mixed : (f : List ℕ → List ℕ) (old now part : List ℕ) (at k : ℕ) → at + k ≤ length now → k % 16 ≡ 0 → length part ≡ k
     → ((b : ℕ) → 16 * b + 16 ≤ k → take 16 (drop (16 * b) part) ≡ f (take 16 (drop (16 * b) (take k (drop at now)))))
     → AreMixed f old now at → AreMixed f old (put_mid at k now part) (at + k)

@@ -53,6 +53,7 @@ zero_later : (n k : ℕ) (xs : List ℕ) (x : ℕ) → n + 1 ≤ k → ((j : ℕ
 zero_later n zero xs x above none = absurd (omega arith)
 zero_later n (suc k) xs x above none = none k (omega arith)
 
+-- one row more: the lanes of both vectors move on by one, and the row is added to the front
 pub sum_step : (total : ℕ) (front back row : List ℕ) (n : ℕ) → n < 16 → length row ≡ 16 → IsSum total front back n
     → IsSum (bit_xor (times_x8 total) (value row)) (zip2 bit_xor (0 ∷ take 15 front) row) (get_or front 15 0 ∷ take 15 back) (n + 1)
 sum_step total front back row n below long sum =

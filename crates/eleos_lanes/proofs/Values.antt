@@ -56,6 +56,7 @@ scaled x y =
 zero_left : (v : ℕ) → bit_xor 0 v ≡ v
 zero_left v = xor_comm 0 v ∙ xor_zero_r v
 
+-- the value of the sum of two strings is the sum of their values
 pub value-zip2 : (xs ys : List ℕ) → length xs ≡ length ys → value (zip2 bit_xor xs ys) ≡ bit_xor (value xs) (value ys)
 unfolding value
 value-zip2 [] [] same = refl
@@ -76,6 +77,7 @@ pub value-moved : (xs : List ℕ) → value (0 ∷ xs) ≡ times_x8 (value xs)
 unfolding value
 value-moved xs = zero_left (times_x8 (value xs))
 
+-- a string behind another adds its value times x to the number of bits in front of it
 pub value-append : (xs ys : List ℕ) → value (xs ++ ys) ≡ bit_xor (value xs) (times_power_of_x (8 * length xs) (value ys))
 unfolding value times_power_of_x
 value-append [] ys = sym (zero_left (value ys))
@@ -95,6 +97,7 @@ unfoldable pub big : List ℕ → ℕ
 big [] = 0
 big (b ∷ bs) = b * 2 ^ (8 * length bs) + big bs
 
+-- a string of n bytes is a number below 2 ^ (8 n)
 pub big-lt : (bs : List ℕ) → Each1 (λ b. b < 256) bs → big bs < 2 ^ (8 * length bs)
 unfolding big
 big-lt [] fits = omega arith
@@ -135,6 +138,7 @@ pub block_is : (b0 b1 b2 b3 b4 b5 b6 b7 b8 b9 b10 b11 b12 b13 b14 b15 : ℕ)
 unfolding big number_of
 block_is b0 b1 b2 b3 b4 b5 b6 b7 b8 b9 b10 b11 b12 b13 b14 b15 = omega arith
 
+-- the value of a block of bytes is the block's number
 pub value_of_block : (bs : List ℕ) → length bs ≡ 16 → Each1 (λ b. b < 256) bs → value bs ≡ number_of bs
 value_of_block bs long fits =
     let at : ℕ → ℕ = λ i. get_or bs i 0 in
@@ -143,6 +147,7 @@ value_of_block bs long fits =
     (block_is (at 0) (at 1) (at 2) (at 3) (at 4) (at 5) (at 6) (at 7) (at 8) (at 9) (at 10) (at 11) (at 12) (at 13) (at 14) (at 15)) in
     value_is bs 0 (omega arith) fits ∙ is
 
+-- 16 bytes as a number, the leftmost highest, are the block's number
 pub big_is : (bs : List ℕ) → length bs ≡ 16 → big bs ≡ number_of bs
 big_is bs long =
     let at : ℕ → ℕ = λ i. get_or bs i 0 in
@@ -161,6 +166,7 @@ unfolding block_of
 block-fits n =
     (omega arith, (omega arith, (omega arith, (omega arith, (omega arith, (omega arith, (omega arith, (omega arith, (omega arith, (omega arith, (omega arith, (omega arith, (omega arith, (omega arith, (omega arith, (omega arith, tt))))))))))))))))
 
+-- the block of a number has 16 bytes
 pub length-block_of : (n : ℕ) → length (block_of n) ≡ 16
 unfolding block_of
 length-block_of n = refl
@@ -169,6 +175,7 @@ length-block_of n = refl
 pub value_of_number : (n : ℕ) → n < 2 ^ 128 → value (block_of n) ≡ n
 value_of_number n below = value_of_block (block_of n) (length-block_of n) (block-fits n) ∙ number-block n below
 
+-- the block of a number is its 16 bytes, the highest first
 pub block_of_is : (n : ℕ) → block_of n ≡ to_be_bytes w128 n
 unfolding block_of
 block_of_is n = refl

@@ -12,6 +12,7 @@ IsDone into old from at =
     ((k : ℕ) → k < at → get_or into k 0 ≡ bit_xor (get_or old k 0) (get_or from k 0))
     × ((k : ℕ) → at ≤ k → get_or into k 0 ≡ get_or old k 0)
 
+-- the sums of 64 bytes of both from a place on
 abbrev pub xored : List ℕ → List ℕ → ℕ → List ℕ
 xored into from at = zip2 bit_xor (chunk at 64 into) (chunk at 64 from)
 
@@ -21,6 +22,7 @@ length-xored into from at same within =
     let b = length-chunk at 64 from (omega arith) in
     length-zip2 bit_xor (chunk at 64 into) (chunk at 64 from) (a ∙ sym b) ∙ a
 
+-- the loop is 64 bytes further once the sums of these are put
 pub chunk_step : (into old from : List ℕ) (at : ℕ) → length into ≡ length from → at + 64 ≤ length into → IsDone into old from at
     → IsDone (put_chunk at into (xored into from at)) old from (at + 64)
 chunk_step into old from at same within done =
@@ -41,6 +43,7 @@ chunk_step into old from at same within done =
       (λ k l. get_or-put_chunk_above at into ys k 0 (omega arith) ∙ done.1 k (omega arith)),
     )
 
+-- the loop is one byte further once the sum of that byte is set
 pub byte_step : (into old from : List ℕ) (at : ℕ) → at < length into → IsDone into old from at
     → IsDone (set into at (bit_xor (get_or into at 0) (get_or from at 0))) old from (at + 1)
 byte_step into old from at within done = (
@@ -55,6 +58,7 @@ byte_step into old from at within done = (
   (λ k l. get_or-set_other into at k _ 0 (λ e. omega arith) ∙ done.1 k (omega arith)),
 )
 
+-- at the end all bytes are the sums of the old ones and those added
 pub all_done : (into old from : List ℕ) (at : ℕ) → length into ≡ length from → length old ≡ length from → length from ≤ at → IsDone into old from at
     → into ≡ zip2 bit_xor old from
 all_done into old from at a b le done =
@@ -80,6 +84,7 @@ none_differs (x ∷ a) (y ∷ b) s long none =
     let parts = or_none s (bit_xor x y) rest.0 in
     (parts.0, ap₂ ◌∷◌ (xor_none x y parts.1) rest.1)
 
+-- a list and itself have no difference to collect
 pub same_collects : (a : List ℕ) → fold_l bit_or 0 (zip2 bit_xor a a) ≡ 0
 same_collects [] = refl
 same_collects (x ∷ a) =

@@ -13,6 +13,7 @@ lane_bit v i j = bit_at (slice_index v i) j
 unfoldable pub differ : ℕ → ℕ → ℕ
 differ x y = bit_xor x y
 
+-- one bit where both bits are one
 unfoldable pub both : ℕ → ℕ → ℕ
 both x y = bit_and x y
 

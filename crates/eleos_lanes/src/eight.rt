@@ -1,5 +1,6 @@
 // Eight blocks, as bytes and in planes of bits, and the rounds of AES on them.
-ghost use Rattle.std.specs.Prelude.{◌≡◌, ℕ, ◌+◌, ◌*◌, ◌<◌, [], take, drop, slice_index, slice_index_or};
+ghost use Rattle.std.specs.Prelude.{◌≡◌, ℕ, ◌+◌, ◌*◌, ◌<◌, [], take, drop, slice_index};
+ghost use Rattle.std.specs.Prelude.{slice_index_or};
 ghost use Rattle.eleos_base.specs.AesState.{mix_columns, shift_rows, sub_bytes};
 ghost use Rattle.eleos_lanes.specs.Planes.{add_block, block_at, plane_byte, vectors};
 

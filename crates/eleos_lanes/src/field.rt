@@ -1,6 +1,7 @@
 // The field of GCM, on blocks as numbers.
 ghost use Rattle.std.specs.Prelude.{◌≡◌, ◌<◌, bit_xor, length};
-ghost use Rattle.eleos_base.specs.BlockField.{block_of, number_of, times_bits, times_power_of_x, times_x, where_set};
+ghost use Rattle.eleos_base.specs.BlockField.{block_of, number_of, times_bits, times_power_of_x};
+ghost use Rattle.eleos_base.specs.BlockField.{times_x, where_set};
 ghost use Rattle.eleos_lanes.specs.Rows.{value};
 
 use std::simd::prelude::*;

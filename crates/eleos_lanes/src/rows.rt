@@ -1,5 +1,6 @@
 // The rows of the products with a block, by four bits at a time.
-ghost use Rattle.std.specs.Prelude.{◌≡◌, ℕ, ◌/◌, ◌%◌, ◌^◌, ◌<◌, [], ◌∷◌, ◌++◌, List, length, bit_xor, map, slice_index, slice_index_or, take};
+ghost use Rattle.std.specs.Prelude.{◌≡◌, ℕ, ◌/◌, ◌%◌, ◌^◌, ◌<◌, [], ◌∷◌, ◌++◌, List, length};
+ghost use Rattle.std.specs.Prelude.{bit_xor, map, slice_index, slice_index_or, take};
 ghost use Rattle.std.specs.Simd.Lanes.{zip2};
 ghost use Rattle.eleos_base.specs.BlockField.{block_of, product, number_of, times_bits};
 ghost use Rattle.eleos_lanes.specs.Rows.{AreRows, row, value};

@@ -25,6 +25,7 @@ looked_calls c g p n one more =
 abbrev pub none_of : Option ℕ
 none_of = None
 
+-- where nothing was copied no word has a copy
 pub none_at : (n i : ℕ) → get_or (replicate n none_of) i none_of ≡ none_of
 none_at zero i = refl
 none_at (suc n) zero = refl
@@ -35,6 +36,7 @@ module _ {P : Type 0} (ring : Ghosts P) where
   pub loads-now : {copy : Option ℕ} (old new : P) (at word : ℕ) → copy ≡ None → LoadsOnce ring copy old new at word → Loads ring old new at word
   loads-now old new at word none once = subst (λ c. LoadsOnce ring c old new at word) none once
 
+  -- a word of the cell that was not copied yet is loaded from its place, once
   pub loads : (old new : Glance P) (j word cell : ℕ) → old.cell ≡ cell → copy_of old.copies j ≡ None → Copies ring old new j word
       → Loads ring old.port.now new.port.now (place cell j) word
   loads old new j word cell here none one =
@@ -44,6 +46,7 @@ module _ {P : Type 0} (ring : Ghosts P) where
   pub stays : (old new : Glance P) (j word i : ℕ) → i ≢ j → Copies ring old new j word → copy_of old.copies i ≡ None → copy_of new.copies i ≡ None
   stays old new j word i other one none = ap (λ l. copy_of l i) one.copies ∙ get_or-set_other old.copies j i (Some word) None other ∙ none
 
+  -- a new look that copies state, number, length and status loads each of the four once, in this order
   pub fields-copied : (a b c d e : Glance P) (cell : ℕ) (f : Fields) → IsNewAt ring a cell
       → Copies ring a b STATE f.state → Copies ring b c ID f.id → Copies ring c d LENGTH f.length → Copies ring d e STATUS f.status
       → CopiesFields ring a e f

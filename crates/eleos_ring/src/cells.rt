@@ -1,9 +1,11 @@
 // The cells of one client.
-ghost use Rattle.std.specs.Prelude.{◌≡◌, ◌≤◌, ◌<◌, ◌+◌, ◌^◌, length, position, is_none, Some, IfOk, IfSome, OnErr};
+ghost use Rattle.std.specs.Prelude.{◌≡◌, ◌≤◌, ◌<◌, ◌+◌, ◌^◌, length, position, is_none, Some, IfOk};
+ghost use Rattle.std.specs.Prelude.{IfSome, OnErr};
 ghost use Rattle.eleos_words.specs.declared.layout.TheConstants.{MOST_BYTES};
 ghost use Rattle.eleos_words.specs.Told.{more_calls};
 ghost use Rattle.eleos_ring.specs.Jobs.{Posts};
-ghost use Rattle.eleos_ring.specs.Rings.{idle, free_cell, post_answer, after_post, IsOut, after_poll};
+ghost use Rattle.eleos_ring.specs.Rings.{idle, free_cell, post_answer, after_post, IsOut};
+ghost use Rattle.eleos_ring.specs.Rings.{after_poll};
 ghost use Rattle.eleos_ring.specs.Polls.{Polls, words_read};
 
 use crate::look::look;

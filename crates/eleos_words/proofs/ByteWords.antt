@@ -12,6 +12,7 @@ pub bytes_in-snoc : (words : List ℕ) (word : ℕ) → bytes_in (words ++ word 
 bytes_in-snoc [] word = append-nil (bytes_of_word word)
 bytes_in-snoc (x ∷ xs) word = ap (λ l. bytes_of_word x ++ l) (bytes_in-snoc xs word) ∙ sym (append_assoc (bytes_of_word x) (bytes_in xs) (bytes_of_word word))
 
+-- words have eight bytes each
 pub length-bytes_in : (words : List ℕ) → length (bytes_in words) ≡ 8 * length words
 length-bytes_in [] = refl
 length-bytes_in (x ∷ xs) = omega (arith, length-append (bytes_of_word x) (bytes_in xs), length-bytes_of_word x, length-bytes_in xs)

@@ -13,10 +13,12 @@ use Rattle.eleos_words.specs.Told.{Placed, placed, placed_from, with_word, with_
 use Rattle.eleos_words.proofs.ByteWords.{filled, filled-more, length-bytes_in}
 use Rattle.eleos_words.proofs.Tellings.{placed_from-snoc, length-placed_from, with_words-append, more_calls-more, AllPlaced-append}
 
+-- the first k words of some bytes are k words, with zeros past the end of the bytes
 pub length-first_words : (k : ℕ) (bytes : List ℕ) → length (first_words k bytes) ≡ k
 length-first_words zero bytes = refl
 length-first_words (suc k) bytes = omega (arith, length-append (first_words k bytes) (word_in bytes k ∷ []), length-first_words k bytes)
 
+-- the first k + 1 words are the first k, and word k behind them
 pub first_words-more : (k : ℕ) (bytes : List ℕ) → first_words (k + 1) bytes ≡ first_words k bytes ++ word_in bytes k ∷ []
 first_words-more k bytes = rw add-one refl
 
@@ -95,6 +97,7 @@ module _ {P : Type 0} (ring : Ghosts P) where
         cell = one.cell ∙ before.cell;
       }
 
+  -- one word more was copied, and its bytes were put into the buffer at its place
   pub filling-more : (first now next : Glance P) (start buf buf' : List ℕ) (j word : ℕ) → Filling first now start buf j → 8 * j < length start
       → next.port.ghost_name ≡ now.port.ghost_name → Copies ring now next (BYTES + j) word → buf' ≡ with_word_at buf j word
       → Filling first next start buf' (j + 1)

@@ -12,6 +12,7 @@ placed_from-snoc at (x ∷ xs) word =
     let e : at + 1 + length xs ≡ at + length (x ∷ xs) = omega arith in
     ap (λ l. placed at x ∷ l) (placed_from-snoc (at + 1) xs word ∙ ap (λ n. placed_from (at + 1) xs ++ placed n word ∷ []) e)
 
+-- words that stand one after another from a place on are as many as without their places
 pub length-placed_from : (at : ℕ) (words : List ℕ) → length (placed_from at words) ≡ length words
 length-placed_from at [] = refl
 length-placed_from at (x ∷ xs) = ap suc (length-placed_from (at + 1) xs)
@@ -44,6 +45,7 @@ with_words-few told (x ∷ xs) few =
     ap (λ t. with_words t xs) (with_word-few told x.at x.word one)
     ∙ with_words-few (told ++ x ∷ []) xs rest ∙ ap Some (append_assoc told (x ∷ []) xs)
 
+-- what holds of each word of two lists at its place holds of each word of both together
 pub AllPlaced-append : (P : ℕ → ℕ → Type 0) (xs ys : List Placed) → AllPlaced P xs → AllPlaced P ys → AllPlaced P (xs ++ ys)
 AllPlaced-append P [] ys all more = more
 AllPlaced-append P (x ∷ xs) ys all more = (all.0, AllPlaced-append P xs ys all.1 more)

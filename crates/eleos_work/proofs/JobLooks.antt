@@ -27,6 +27,7 @@ few-yes : (l : ℕ) → l ≤ 1024 → nat_le l 1024 ≡ true
 few-yes l few = grind (arith, nat_tests)
 
 module _ {P : Type 0} (ring : Ghosts P) where
+  -- a new look that copies number, call and length of a job loads each of the three once, in this order
   pub job-copied : (a b c d : Glance P) (cell : ℕ) (job : Job) → IsNewAt ring a cell
       → Copies ring a b ID job.id → Copies ring b c CALL job.call → Copies ring c d LENGTH job.length → CopiesJob ring a d job
   job-copied a b c d cell job new one two three =
@@ -53,6 +54,7 @@ module _ {P : Type 0} (ring : Ghosts P) where
             (stays ring a b ID job.id i (omega arith) one (none i)));
       }
 
+  -- a look that copied a job's fields, and then as many bytes as its length says, has read that job
   pub reads-job : (a e z : Glance P) (job : Job) (text front : List ℕ) → CopiesJob ring a e job → CopiesBytes ring e z front
       → length front ≡ job.length → job.length ≤ 1024 → Reads ring a.cell z.port.now job (front ++ drop job.length text)
   reads-job a e z job text front fields bytes len few =

@@ -29,6 +29,7 @@ times-snoc c x xs = sum_by-append (λ y. cond (y == c) 1 0) xs (x ∷ [])
 times-cons : (c x : ℕ) (xs : List ℕ) → times c (x ∷ xs) ≡ times c (x ∷ []) + times c xs
 times-cons c x xs = sum_by-append (λ y. cond (y == c) 1 0) (x ∷ []) xs
 
+-- a pass may push the number of a cell, which is then the last that it has pushed
 pub pushes : (n port : ℕ) (v : JobView) (x : ℕ) → x < CELLS → Pushes Kept n port v x (λ w. w ≡ job_view (v.pushed ++ x ∷ []) v.popped)
 pushes n port v x small items views room kept at =
     let w : JobView = job_view (v.pushed ++ x ∷ []) v.popped in (
@@ -44,6 +45,7 @@ pushes n port v x small items views room kept at =
       refl,
     )
 
+-- a pass may pop what is next in the queue: it is the number of a cell, and then the last that the pass has popped
 pub pops : (port : ℕ) (v : JobView) → Pops Kept port v (λ x w. (x < CELLS) × (w ≡ job_view v.pushed (v.popped ++ x ∷ [])))
 pops port v x items views kept at =
     let w : JobView = job_view v.pushed (v.popped ++ x ∷ []) in (

@@ -3,7 +3,8 @@ ghost use Rattle.std.specs.Prelude.{◌≡◌, ◌<◌, ◌≤◌, ◌+◌, ◌*
 ghost use Rattle.std.specs.List.{All};
 ghost use Rattle.eleos_words.specs.declared.layout.TheConstants.{CELLS};
 ghost use Rattle.eleos_ring.specs.declared.cells.TheConstants.{CELLS_EACH, CLIENTS};
-ghost use Rattle.eleos_work.specs.Passes.{IsOf, IsNewPass, HasPopped, HasFoundNone, Pushes, room_of};
+ghost use Rattle.eleos_work.specs.Passes.{IsOf, IsNewPass, HasPopped, HasFoundNone, Pushes};
+ghost use Rattle.eleos_work.specs.Passes.{room_of};
 
 use crate::rule::{JobRule, JobView, Popped, Pushed};
 use crate::table::CallTable;

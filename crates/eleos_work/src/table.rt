@@ -40,8 +40,11 @@ pub(crate) struct Answered {
 }
 
 impl CallTable {
-    ghost use Rattle.eleos_work.specs.declared.calls.HostCall.TheVariants.{Echo, Put, Get, Cut, Clock};
-    ghost use Rattle.eleos_work.specs.Calls.{place_of, put_status, cut_status, get_reply, clock_reply, after_put, after_cut, kept_after_call, reply_to_call};
+    ghost use Rattle.eleos_work.specs.declared.calls.HostCall.TheVariants.{Echo, Put, Get, Cut};
+    ghost use Rattle.eleos_work.specs.declared.calls.HostCall.TheVariants.{Clock};
+    ghost use Rattle.eleos_work.specs.Calls.{place_of, put_status, cut_status, get_reply};
+    ghost use Rattle.eleos_work.specs.Calls.{clock_reply, after_put, after_cut, kept_after_call};
+    ghost use Rattle.eleos_work.specs.Calls.{reply_to_call};
     ghost use Rattle.eleos_work.specs.Table.{no_entries, AnswersBy};
 
     /// A table that keeps nothing.
