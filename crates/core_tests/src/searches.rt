@@ -1,4 +1,5 @@
-// Events of the core that no command of the program makes: the end of a search among frames, and what is
+// Events of the core that no command of the program makes: the end of a search among frames, and
+// what is
 // refused for want of a frame or since a block did not pass.
 ghost use Rattle.std.specs.Prelude.{◌≡◌, [], IfOk};
 ghost use Rattle.eleos_base.specs.Plans.{IsCaller, IsGood};
@@ -16,7 +17,8 @@ use std::test::*;
 
 const HERE: Addr = Addr { enclave: 0, at: 0 };
 
-// One enclave of one page, which has the frames 0 and 1, with frame 2 in the pool, and one caller, who has
+// One enclave of one page, which has the frames 0 and 1, with frame 2 in the pool, and one caller,
+// who has
 // the first sub-page.
 fn plan_of_three_frames(alloc: Global) -> Result<Plan, AllocError>
     ensures good { IfOk result (λ plan. IsGood plan) }

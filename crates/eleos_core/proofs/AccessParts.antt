@@ -21,7 +21,7 @@ use Rattle.eleos_core.specs.Applying.{puts_from}
 use Rattle.eleos_core.specs.Cells.{frame_of_page, part_of_page, part_with, sub_parts}
 use Rattle.eleos_core.specs.Legal.{ByBlocks, Judged, failed, failed_last, judged, passed}
 use Rattle.eleos_core.specs.Parts.{Part, Stamp, SubPart, blank_sub, frame_in, opened_in, page_after, page_part, passes_in, places_in, seals_in, sealing_in, sub_after, subs_in}
-use Rattle.eleos_core.specs.Places.{page_of, per_page, sub_of}
+use Rattle.eleos_base.specs.Places.{page_of, per_page, sub_of}
 use Rattle.eleos_core.specs.Seals.{Seals}
 use Rattle.eleos_core.specs.State.{block_for, writes}
 use Rattle.eleos_core.proofs.PageParts.{bytes_in, bytes_in-absent, part_at_index, sub_parts-made, sub_parts_at}
@@ -56,6 +56,7 @@ read_is k x who at n blocks reply ps f s u h =
     ∙ sym (ap (λ z. accessed x s f u text u.bytes z (writes k who (Op (Read at n)) reply s)) (no_run s)
     ∙ ap (accessed x s f u text u.bytes false) (and_false _))
 
+-- of a write: its bytes go into the text that is sealed, or into the bytes in the frame
 pub write_is : (k : Plan) (x : Seals) (who : ℕ) (at : Addr) (new : List ℕ) (blocks : List (List ℕ)) (reply : Reply) (ps : List ℕ) (f : Option ℕ) (s : ℕ) (u : SubPart) (written : Bool) → IsInRange k who at (length new)
     → (is_accepted reply && (s == sub_of k at)) ≡ written
     → sub_after k x (write_stamp who at new blocks reply) ps f s u
@@ -155,20 +156,25 @@ pub legal_by : (o : Option Reply) (A : Type 0) (B : Reply → Type 0) → o ≡ 
 legal_by None A B e a = a
 legal_by (Some r) A B e a = cc
 
+-- and where it is refused, what is to follow with that reply is enough
 pub refused_by : (o : Option Reply) (r : Reply) (A : Type 0) (B : Reply → Type 0) → o ≡ Some r → B r → MatchOption o A B
 refused_by None r A B e b = cc
 refused_by (Some r') r A B e b = let same : r ≡ r' = cc in subst B same b
 
+-- the good reply is right where all blocks passed
 pub by_passed : (j : Judged) (good reply : Reply) → j ≡ passed → reply ≡ good → ByBlocks j good reply
 by_passed j good reply e is = subst (λ v. ByBlocks v good reply) (sym e) is
 
+-- and where one did not, the reply that names its place
 pub by_failed : (j : Judged) (s : ℕ) (good reply : Reply) → j ≡ failed s → reply ≡ Tampered s → ByBlocks j good reply
 by_failed j s good reply e is = subst (λ v. ByBlocks v good reply) (sym e) is
 
+-- where a test holds, what is to follow then is enough
 pub if_true : (b : Bool) (A B : Type 0) → b ≡ true → A → MatchBool b A B
 if_true true A B e a = a
 if_true false A B e a = cc
 
+-- and where it fails, what is to follow then
 pub if_false : (b : Bool) (A B : Type 0) → b ≡ false → B → MatchBool b A B
 if_false true A B e a = cc
 if_false false A B e a = a
@@ -188,24 +194,30 @@ judged_one f g s true (c ∷ c' ∷ cs) h = ap (λ v. if v then judged f [] (c' 
 
 -- how the blocks of an access are judged
 module _ (k : Plan) (x : Seals) (at : Addr) (blocks : List (List ℕ)) (q : Part) where
+  -- what becomes of the blocks that came, by the part of the page
   abbrev pub access_verdict : Judged
   access_verdict = judged (passes_in k x (subs_in q)) (opened_places k at q) blocks
 
+  -- in a frame an access opens no block
   pub opened_places-present : is_some (frame_in q) ≡ true → opened_places k at q ≡ []
   opened_places-present here = ap (λ v. if v then [] else block_places (sub_of k at) (sub_for k at q)) here
 
+  -- of an absent page it opens that of its sub-page, where this lies sealed
   pub opened_places-absent : is_some (frame_in q) ≡ false → opened_places k at q ≡ block_places (sub_of k at) (sub_for k at q)
   opened_places-absent gone = ap (λ v. if v then [] else block_places (sub_of k at) (sub_for k at q)) gone
 
+  -- so there no block can fail
   pub verdict-present : is_some (frame_in q) ≡ true → AreBlocks (opened_places k at q) blocks → access_verdict ≡ passed
   verdict-present here are =
       let none : blocks ≡ [] = no_blocks blocks (subst (λ ps. AreBlocks ps blocks) (opened_places-present here) are) in
       (λ i. judged (passes_in k x (subs_in q)) (opened_places-present here i) (none i))
 
+  -- of an absent page the sub-page of the address alone judges the block
   pub verdict-absent : is_some (frame_in q) ≡ false → access_verdict ≡ judged_sub x (sub_of k at) (sub_for k at q) blocks
   verdict-absent gone = ap (λ ps. judged (passes_in k x (subs_in q)) ps blocks) (opened_places-absent gone)
       ∙ judged_one (passes_in k x (subs_in q)) (λ s c. pointwise nat_eq (x.tag s (sub_for k at q).version c) (sub_for k at q).tag) (sub_of k at) (sub_for k at q).is_sealed blocks (λ c. refl)
 
+  -- and what the access finds is what that sub-page opens to
   pub opened_in-absent : (e : Entry) → e.blocks ≡ blocks → is_some (frame_in q) ≡ false
       → opened_in k x e (opened_places k at q) (sub_of k at) (sub_for k at q) ≡ opened_sub x (sub_of k at) (sub_for k at q) blocks
   opened_in-absent e same gone =

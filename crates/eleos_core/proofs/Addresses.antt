@@ -12,8 +12,8 @@ use Rattle.eleos_base.specs.declared.plan.EnclavePlan.{EnclavePlan}
 use Rattle.eleos_base.specs.Plain.{is_in_range, zeros}
 use Rattle.eleos_base.specs.Plans.{sub_bytes, subs_in}
 use Rattle.eleos_base.specs.Ties.{Has}
-use Rattle.eleos_core.specs.Runs.{first_of_run}
-use Rattle.eleos_core.specs.Places.{page_counts, per_page, page_of, subs_of, first_sub, subs, is_sub_of, sub_of, blank_bytes}
+use Rattle.eleos_base.specs.Runs.{first_of_run}
+use Rattle.eleos_base.specs.Places.{page_counts, per_page, page_of, subs_of, first_sub, subs, is_sub_of, sub_of, blank_bytes}
 
 has-range : (a n s : ℕ) → a ≤ s → s < a + n → Has s (range_with_len a n)
 has-range a zero s low high = absurd (omega arith)
@@ -64,6 +64,7 @@ module _ (k : Plan) where
   pub sub-inside : (e i : ℕ) → i < subs k e → is_sub_of k e (first_sub k e + i) ≡ true
   sub-inside e i within = grind (arith, nat_tests)
 
+  -- and back from the machine's number to the place in the enclave
   pub sub-local : (e i : ℕ) → first_sub k e + i - first_sub k e ≡ i
   sub-local e i = omega arith
 

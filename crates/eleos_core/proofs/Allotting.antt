@@ -18,7 +18,7 @@ use Rattle.eleos_core.specs.Allots.{marked, page_marked, run_marked}
 use Rattle.eleos_core.specs.Applying.{Makes, parts_in, stamp_of}
 use Rattle.eleos_core.specs.Cells.{Cells, part_in, sub_size, subs_per_page}
 use Rattle.eleos_core.specs.Parts.{MayStep, Part, Stamp, SubPart, after_at, alloc_cell, alloc_part, blank_sub, clock_part, foot, frame_in, frame_part, len_of, no_part, page_after, page_cell, page_part, pages_of_run, part_after, places_in, start_of, sub_after, subs_in, the_frame}
-use Rattle.eleos_core.specs.Places.{all_frames, all_pages}
+use Rattle.eleos_base.specs.Places.{all_frames, all_pages}
 use Rattle.eleos_core.specs.Seals.{Seals}
 use Rattle.eleos_core.specs.State.{live_by}
 use Rattle.eleos_core.proofs.FreeRuns.{by_test}
@@ -67,13 +67,16 @@ Marks k x mark d op start n = (f : Option ℕ) (us : List SubPart) (s : ℕ) (u 
     → sub_after k x d (places_in k (Op op) f us) f s u ≡ (if is_in_run start n s then marked mark (is_some f) u else u)
 
 module _ (k : Plan) (x : Seals) (who len : ℕ) (reply : Reply) where
+  -- an alloc makes the sub-pages of its run blank, in the new block
   pub alloc_marks : (n : ℕ) → Marks k x (Blank (Some (record { start = got reply / sub_size; len = subs_for sub_size n; owner = who; is_shared = false }))) (stamp_of who (Op (Alloc n)) [] reply len) (Alloc n)
       (start_of k who (Alloc n) reply) (len_of k who (Alloc n) reply len)
   alloc_marks n f us s u none = blank_cases (is_in_run (start_of k who (Alloc n) reply) (len_of k who (Alloc n) reply len) s) _ (Some (record { start = got reply / sub_size; len = subs_for sub_size n; owner = who; is_shared = false })) f u _ _ (never _) none
 
+  -- a free makes them blank, in no block
   pub free_marks : (at : Addr) → Marks k x (Blank None) (stamp_of who (Op (Free at)) [] reply len) (Free at) (start_of k who (Free at) reply) (len_of k who (Free at) reply len)
   free_marks at f us s u none = blank_cases (is_in_run (start_of k who (Free at) reply) (len_of k who (Free at) reply len) s) _ None f u _ _ (never _) none
 
+  -- a share leaves their contents, and their block is shared
   pub share_marks : (at : Addr) → Marks k x Shared (stamp_of who (Op (Share at)) [] reply len) (Share at) (start_of k who (Share at) reply) (len_of k who (Share at) reply len)
   share_marks at f us s u none = shared_cases (is_in_run (start_of k who (Share at) reply) (len_of k who (Share at) reply len) s) _ f u _ _ (never _) none
 
@@ -189,6 +192,7 @@ module _ (m : Cells) (x : Seals) (who len : ℕ) (op : Calls) (reply : Reply) (w
           (λ f h is. refl)
           (λ h. refl)
 
+      -- with the new live blocks and the marked pages the cells are what the call makes of them
       pub accepted_makes : MayStep m.plan x the_stamp (parts_in m) → Makes x the_stamp m new_cells
       accepted_makes may = record {
         plan = refl;

@@ -38,6 +38,7 @@ module _ (k : Plan) (x : Seals) (good : IsGood k) where
     puts : map put_of sent ≡ puts_of k x (entry who event blocks reply) past
     shown : Shows x (entry who event blocks reply ∷ past) new
 
+  -- what was made on cells that show a history was applied after it: legal, with the blocks used, and sending what it seals
   pub applies : (past : History) (who : ℕ) (event : Event) (given blocks : List (List ℕ)) (reply : Reply) (len : ℕ) (old new : Cells) (sent : List Put)
       → old.plan ≡ k → CoreRun k x past → Shows x past old → Makes x (stamp_of who event blocks reply len) old new → LinksAllow k past who event
       → map put_of sent ≡ puts_in old.plan x (stamp_of who event blocks reply len) (parts_in old) event

@@ -13,7 +13,7 @@ use Rattle.eleos_core.specs.Applying.{AlwaysApplies, Makes, Shows, parts_in, put
 use Rattle.eleos_core.specs.Cells.{Cells}
 use Rattle.eleos_core.specs.Legal.{passes}
 use Rattle.eleos_core.specs.Parts.{is_worn_in}
-use Rattle.eleos_core.specs.Places.{sub_of}
+use Rattle.eleos_base.specs.Places.{sub_of}
 use Rattle.eleos_core.specs.Seals.{Seals}
 use Rattle.eleos_core.specs.State.{History, access_places}
 use Rattle.eleos_core.proofs.Applied.{applies}
@@ -61,6 +61,7 @@ module _ (x : Seals) (old new : Cells) (who : ℕ) (given : List (List ℕ)) (re
       neither true = refl
       neither false = refl
 
+  -- of a write, which may seal one block and send it
   pub write_applies : (op : Calls) (at : Addr) (bytes : List ℕ) → op ≡ Write at bytes → Makes x (write_stamp who at bytes given reply) old new
       → map put_of sent ≡ puts_in old.plan x (write_stamp who at bytes given reply) (parts_in old) (Op (Write at bytes)) → Applied op
   write_applies op at bytes is makes puts = of_call op (Write at bytes) is (λ fit past good run shows.

@@ -12,7 +12,7 @@ use Rattle.eleos_core.specs.Cells.{Cells}
 use Rattle.eleos_core.specs.Legal.{access_refusal, passes}
 use Rattle.eleos_core.specs.PartLaws.{LinksAllow}
 use Rattle.eleos_core.specs.Parts.{Part, SubPart, page_cell}
-use Rattle.eleos_core.specs.Places.{page_of, sub_of}
+use Rattle.eleos_base.specs.Places.{page_of, sub_of}
 use Rattle.eleos_core.specs.Seals.{Seals}
 use Rattle.eleos_core.specs.State.{History, access_places, is_present, is_sealed, places}
 use Rattle.eleos_core.proofs.AccessParts.{no_blocks}
@@ -32,9 +32,11 @@ plainly_applies x old new who event reply len sent nothing quiet allow makes = �
 
 -- no blocks are given where none are taken
 module _ (x : Seals) (old : Cells) (who : ℕ) (event : Event) (given : List (List ℕ)) (fit : AreBlocks [] given) where
+  -- so what was applied without blocks was applied with those given
   pub applies_given : (new : Cells) (reply : Reply) (sent : List Put) → AlwaysApplies x old who event [] reply sent new → AlwaysApplies x old who event given reply sent new
   applies_given new reply sent applied = subst (λ blocks. AlwaysApplies x old who event blocks reply sent new) (sym (no_blocks given fit)) applied
 
+  -- and what is illegal without blocks is illegal with those given
   pub illegal_given : (part : Offence) → AlwaysIllegal x old who event [] part → AlwaysIllegal x old who event given part
   illegal_given part illegal = subst (λ blocks. AlwaysIllegal x old who event blocks part) (sym (no_blocks given fit)) illegal
 
@@ -53,9 +55,11 @@ used_access test false true s (c ∷ (d ∷ cs)) count = absurd (omega arith)
 
 -- cells that show a history
 module _ (x : Seals) (m : Cells) (past : History) (shows : Shows x past m) where
+  -- the part of an address's page is what the history made of it
   pub page_shown : (at : Addr) → page_for m at ≡ cell_part m.plan x past (page_of m.plan (sub_of m.plan at))
   page_shown at = shows.parts (page_cell m.plan (page_of m.plan (sub_of m.plan at)))
 
+  -- and an access is refused by them just as it is after the history
   pub refusal_shown : (who : ℕ) (at : Addr) (n : ℕ) → refusal_on m who at n ≡ access_refusal m.plan past who at n
   refusal_shown who at n = ap (λ (q : Part). refusal_for m.plan who at n q) (page_shown at) ∙ refusal_same m.plan x past who at n
 

@@ -15,7 +15,7 @@ use Rattle.eleos_core.specs.Applying.{AlwaysApplies, AlwaysIllegal, Makes, stamp
 use Rattle.eleos_core.specs.Cells.{Cells, links_in}
 use Rattle.eleos_core.specs.Legal.{IsPlainly}
 use Rattle.eleos_core.specs.Parts.{MayStep, Part, Stamp, block_at, frame_in, part_at, refusal_in}
-use Rattle.eleos_core.specs.Places.{all_pages}
+use Rattle.eleos_base.specs.Places.{all_pages}
 use Rattle.eleos_core.specs.Seals.{Seals}
 use Rattle.eleos_core.specs.State.{entry, links}
 use Rattle.eleos_core.proofs.ApplyingEvents.{page_shown, plainly_applies}
@@ -36,16 +36,19 @@ unmet None present A P barred step = let there : present ≡ true = step.0 in cc
 unmet (Some reply) present A P barred step = cc
 
 module _ (x : Seals) (old : Cells) (who : ℕ) where
+  -- a link that was made on the cells was applied, and sent nothing to the host
   pub link_applies : (new : Cells) (at : Addr) (reply : Reply) (sent : List Put) → sent ≡ [] → Makes x (link_stamp who at reply) old new
       → AlwaysApplies x old who (Link at) [] reply sent new
   link_applies new at reply sent nothing makes = plainly_applies x old new who (Link at) reply 0 sent nothing refl (λ past shows. tt) makes
 
+  -- so was an unlink of a page on which the caller has a link
   pub unlink_applies : (new : Cells) (page : ℕ) (reply : Reply) (sent : List Put) → IsCaller old.plan who → page < all_pages old.plan → None ≡ (if nat_le 1 (links_in old who page) then None else Some Untied)
       → sent ≡ [] → Makes x (unlink_stamp who page reply) old new → AlwaysApplies x old who (Unlink page) [] reply sent new
   unlink_applies new page reply sent caller exists told nothing makes =
       let linked : 1 ≤ links_in old who page = leb-true 1 (links_in old who page) (allowed (nat_le 1 (links_in old who page)) Untied told) in
       plainly_applies x old new who (Unlink page) reply 0 sent nothing refl (λ past shows. subst (λ n. 1 ≤ n) (shows.links who page caller exists) linked) makes
 
+  -- a link that is not refused is illegal where the page is absent
   pub link_illegal : (at : Addr) (part : Offence) → Some part ≡ (if may_link old who at then None else Some Absent) → AlwaysIllegal x old who (Link at) [] part
   link_illegal at part told = λ past good run shows. record {
     never = λ count reply step.
@@ -59,6 +62,7 @@ module _ (x : Seals) (old : Cells) (who : ℕ) where
     part_is = (forbidden (may_link old who at) Absent part told).1;
   }
 
+  -- and an unlink where the caller has no link on the page
   pub unlink_illegal : (page : ℕ) (part : Offence) → Some part ≡ (if nat_le 1 (links_in old who page) then None else Some Untied) → AlwaysIllegal x old who (Unlink page) [] part
   unlink_illegal page part told = λ past good run shows. record {
     never = λ count reply step.

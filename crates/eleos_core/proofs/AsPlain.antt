@@ -12,7 +12,7 @@ use Rattle.eleos_base.specs.Plain.{EnclaveMemory, Plain, lowest_run, subs_for, b
 use Rattle.eleos_base.specs.Plans.{enclave_of, sub_bytes, subs_in}
 use Rattle.eleos_core.specs.declared.event.Event.TheVariants.{Op}
 use Rattle.eleos_core.specs.Seals.{Seals}
-use Rattle.eleos_core.specs.Places.{subs, first_sub, is_sub_of, blank_bytes}
+use Rattle.eleos_base.specs.Places.{subs, first_sub, is_sub_of, blank_bytes}
 use Rattle.eleos_core.specs.State.{History, live, live_by, covers, writes, rewritten}
 use Rattle.eleos_core.proofs.Ranges.{range-same, range-set, range-from, from-range, get_or-map_from, replicate-range}
 use Rattle.eleos_core.proofs.Addresses.{blank-is, sub-inside, sub-local, sub-outside, subs-is}
@@ -32,12 +32,15 @@ module _ (k : Plan) (x : Seals) where
   abbrev pub as_plain : History → Plain
   as_plain past = map (enclave_memory past) (range_with_len 0 (length k.enclaves))
 
+  -- the memory that it has for an enclave is that enclave's
   pub memory-is : (past : History) (e : ℕ) → e < length k.enclaves → memory_of (as_plain past) e ≡ enclave_memory past e
   memory-is past e within = get_or-map-range_with_len (enclave_memory past) 0 (length k.enclaves) e e (record { blocks = []; texts = [] }) within (omega arith)
 
+  -- an enclave's memory has as many texts as the enclave has sub-pages
   pub length-texts : (past : History) (e : ℕ) → length (enclave_memory past e).texts ≡ subs k e
   length-texts past e = length-map-range_with_len (text_in past e) 0 (subs k e)
 
+  -- and in each place the text of the sub-page there
   pub texts-at : (past : History) (e i : ℕ) → i < subs k e → get_or (enclave_memory past e).texts i [] ≡ text_in past e i
   texts-at past e i within = get_or-map-range_with_len (text_in past e) 0 (subs k e) i i [] within (omega arith)
 
@@ -52,7 +55,7 @@ module _ (k : Plan) (x : Seals) where
     home = enclave_of k who
 
     -- the texts of the caller's enclave
-    text_own : (i : ℕ) → i < subs k home → text_after (sub_bytes k home) home (live k past home) op reply i (text_in past home i) ≡ text_in new home i
+    pub text_own : (i : ℕ) → i < subs k home → text_after (sub_bytes k home) home (live k past home) op reply i (text_in past home i) ≡ text_in new home i
     text_own i within =
         let s : ℕ = first_sub k home + i in
         let inside : is_sub_of k home s ≡ true = sub-inside k home i within in
@@ -63,7 +66,7 @@ module _ (k : Plan) (x : Seals) where
         sym (texts-are s ∙ (λ t. if covers-is t then sym (blank-is k home) t else if writes-is t then plain.rewritten (sub_bytes k home) home op (text k x past s) else text k x past s))
 
     -- and those of another
-    text_other : (j i : ℕ) → j ≢ home → i < subs k j → text_in past j i ≡ text_in new j i
+    pub text_other : (j i : ℕ) → j ≢ home → i < subs k j → text_in past j i ≡ text_in new j i
     text_other j i other within =
         let s : ℕ = first_sub k j + i in
         let outside : is_sub_of k home s ≡ false = sub-outside k home j i other within in
@@ -114,6 +117,7 @@ module _ (k : Plan) (x : Seals) where
       ∙ (λ t. replicate (subs-is k e no_enclave within t) (blank-is k e t)) ∙ replicate-range (blank_bytes k) 0 (subs k e) in
       λ t. record { blocks = blocks-is t; texts = texts-is t }
 
+  -- the memory that the plan opens with is the machine's before its first event
   pub opening-is : opening k ≡ as_plain []
   opening-is = from-range (opening_of k) (enclave_memory []) 0 k.enclaves no_enclave
       (λ i j within at. subst (λ (p : ℕ). opening_of k p (get_or k.enclaves i no_enclave) ≡ enclave_memory [] p) (let same : i ≡ j = omega arith in same) (opened-is i within))

@@ -55,11 +55,13 @@ all_set P [] i x all holds = tt
 all_set P (y ∷ xs) zero x all holds = (holds, all.1)
 all_set P (y ∷ xs) (suc i) x all holds = (all.0, all_set P xs i x all.1 holds)
 
+-- what holds of all holds of the one in a place
 pub all_at : {A : Type 0} (P : A → Type 0) (xs : List A) (i : ℕ) (d : A) → AllByRecursion P xs → i < length xs → P (slice_index_or xs i d)
 all_at P [] i d all inside = absurd (omega arith)
 all_at P (x ∷ xs) zero d all inside = all.0
 all_at P (x ∷ xs) (suc i) d all inside = all_at P xs i d all.1 (omega arith)
 
+-- what holds of each by what held of it
 pub all_map : {A : Type 0} (P Q : A → Type 0) (xs : List A) → ((x : A) → P x → Q x) → AllByRecursion P xs → AllByRecursion Q xs
 all_map P Q [] on all = tt
 all_map P Q (x ∷ xs) on all = (on x all.0, all_map P Q xs on all.1)

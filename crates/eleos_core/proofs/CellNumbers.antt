@@ -6,8 +6,8 @@ use Rattle.std.proofs.lemmas.List.{length-map}
 use Rattle.eleos_base.specs.declared.plan.Plan.{Plan}
 use Rattle.eleos_base.specs.declared.plan.EnclavePlan.{EnclavePlan}
 use Rattle.eleos_base.specs.Lists.{map_from}
-use Rattle.eleos_core.specs.Runs.{run_with}
-use Rattle.eleos_core.specs.Places.{Owner, all_frames, all_pages, home_of, page_counts, page_of, per_page, subs_of}
+use Rattle.eleos_base.specs.Runs.{run_with}
+use Rattle.eleos_base.specs.Places.{Owner, all_frames, all_pages, home_of, page_counts, page_of, per_page, subs_of}
 use Rattle.eleos_core.specs.Seals.{Seals}
 use Rattle.eleos_core.specs.State.{History, is_sealed}
 use Rattle.eleos_core.specs.Parts.{Cell, no_cell, the_alloc, the_clock, the_page, the_frame, alloc_cell, clock_cell, page_cell, frame_cell, later_cell, cell_of, SubPart, blank_sub, sub_part, sub_in, sealed_from}
@@ -30,15 +30,19 @@ module _ (k : Plan) where
   pub alloc_is : (e : ℕ) → e < length k.enclaves → cell_of k (alloc_cell k e) ≡ the_alloc e
   alloc_is e h = grind (arith, nat_tests)
 
+  -- of an enclave's clock cell
   pub enclave_clock_is : (e : ℕ) → e < length k.enclaves → cell_of k (clock_cell k (Some e)) ≡ the_clock (Some e)
   enclave_clock_is e h = grind (arith, nat_tests)
 
+  -- of the pool's
   pub pool_clock_is : cell_of k (clock_cell k None) ≡ the_clock None
   pool_clock_is = grind (arith, nat_tests)
 
+  -- of a page's
   pub page_is : (p : ℕ) → p < all_pages k → cell_of k (page_cell k p) ≡ the_page p
   page_is p h = grind (arith, nat_tests)
 
+  -- of a frame's
   pub frame_is : (f : ℕ) → f < all_frames k → cell_of k (frame_cell k f) ≡ the_frame f
   frame_is f h = grind (arith, nat_tests)
 
@@ -92,6 +96,7 @@ pub mapped_range : {A B : Type 0} (f : ℕ → A → B) (h : ℕ → A) (a n : �
 mapped_range f h a zero = refl
 mapped_range f h a (suc n) = ap (λ r. f a (h a) ∷ r) (mapped_range f h (a + 1) n)
 
+-- two functions that agree on the numbers of a range make one list of it
 pub map_same : {A : Type 0} (f g : ℕ → A) (a n : ℕ) → ((s : ℕ) → a ≤ s → s < a + n → f s ≡ g s) → map f (range_with_len a n) ≡ map g (range_with_len a n)
 map_same f g a zero h = refl
 map_same f g a (suc n) h = ap (λ u. u ∷ map f (range_with_len (a + 1) n)) (h a (omega arith) (omega arith)) ∙ ap (λ r. g a ∷ r) (map_same f g (a + 1) n (λ s l u. h s (omega arith) (omega arith)))

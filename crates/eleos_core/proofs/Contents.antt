@@ -15,7 +15,7 @@ use Rattle.eleos_core.specs.declared.event.Entry.{Entry}
 use Rattle.eleos_core.specs.declared.event.Event.{Event}
 use Rattle.eleos_core.specs.declared.event.Event.TheVariants.{Op, Fill, Evict}
 use Rattle.eleos_core.specs.Seals.{Seals, Opens}
-use Rattle.eleos_core.specs.Places.{page_of, subs_of, sub_of, subs, first_sub, is_sub_of, blank_bytes}
+use Rattle.eleos_base.specs.Places.{page_of, subs_of, sub_of, subs, first_sub, is_sub_of, blank_bytes}
 use Rattle.eleos_core.specs.State.{History, entry, live, frame, is_present, is_dirty, is_sealed, version, covers, writes, fills, evicts, rewritten, places, block_for, opened, bytes, last, found}
 use Rattle.eleos_core.specs.Legal.{passed, CallStep, EventStep, AreTrue, access_refusal, is_worn, verdict}
 use Rattle.eleos_core.proofs.Tests.{by_test, first_of, second_of}
@@ -49,7 +49,7 @@ module _ (k : Plan) (x : Seals) where
   text_by who op reply past s = if covers k who (Op op) reply past s then blank_bytes k else if writes k who (Op op) reply s then rewritten k who (Op op) (text past s) else text past s
 
   -- the block that an accepted write opened is the last one
-  write_block : (past : History) (e : Entry) (op : Calls) (s : ℕ) → CallStep k x past e op → AreTrue k x past (places k (Op op) past) e.blocks → e.event ≡ Op op
+  pub write_block : (past : History) (e : Entry) (op : Calls) (s : ℕ) → CallStep k x past e op → AreTrue k x past (places k (Op op) past) e.blocks → e.event ≡ Op op
       → writes k e.who (Op op) e.reply s ≡ true → is_present k past s ≡ false → is_sealed k past s ≡ true → block_for (places k (Op op) past) e.blocks s ≡ last k x past s
   write_block past e (Alloc n) s step a is w p g = let no : false ≡ true = second_of (is_sub_of k (enclave_of k e.who) s) false w in cc
   write_block past e (Free at) s step a is w p g = let no : false ≡ true = second_of (is_sub_of k (enclave_of k e.who) s) false w in cc
@@ -86,13 +86,14 @@ module _ (k : Plan) (x : Seals) where
         sym (op_text x opens (blank_bytes k) s (rewritten k who (Op op)) (covers k who (Op op) reply past s) (writes k who (Op op) reply s) (is_present k past s) (is_dirty k past s) (is_sealed k past s)
         (version k past s) (bytes k x past s) (last k x past s) (block_for (places k (Op op) past) blocks s) (write_block past (entry who (Op op) blocks reply) op s step a refl))
 
+    -- after a call too, clean sub-pages in frames are as they were sealed
     pub call-clean : (past : History) (who : ℕ) (op : Calls) (blocks : List (List ℕ)) (reply : Reply) → IsClean past → IsClean (entry who (Op op) blocks reply ∷ past)
     call-clean past who op blocks reply clean s =
         op_clean x opens (blank_bytes k) s (rewritten k who (Op op)) (covers k who (Op op) reply past s) (writes k who (Op op) reply s) (is_present k past s) (is_dirty k past s) (is_sealed k past s)
         (version k past s) (bytes k x past s) (last k x past s) (rewritten k who (Op op) (opened k x (entry who (Op op) blocks reply) past s)) (clean s)
 
     -- the block that an accepted fill opened is the last one
-    fill_block : (past : History) (who p f : ℕ) (blocks : List (List ℕ)) (reply : Reply) → EventStep k x past (entry who (Fill p f) blocks reply) (Fill p f) → AreTrue k x past (places k (Fill p f) past) blocks
+    pub fill_block : (past : History) (who p f : ℕ) (blocks : List (List ℕ)) (reply : Reply) → EventStep k x past (entry who (Fill p f) blocks reply) (Fill p f) → AreTrue k x past (places k (Fill p f) past) blocks
         → (s : ℕ) → fills k (Fill p f) reply s ≡ true → is_sealed k past s ≡ true → block_for (places k (Fill p f) past) blocks s ≡ last k x past s
     fill_block past who p f blocks reply step a s v g =
         block-true k x past (places k (Fill p f) past) blocks (by_blocks (verdict k x past (Fill p f) blocks) Done reply step.1 (first_of (is_accepted reply) (page_of k s == p) v)).0 a s
@@ -106,6 +107,7 @@ module _ (k : Plan) (x : Seals) where
         (version k past s) (bytes k x past s) (last k x past s) (block_for (places k (Fill p f) past) blocks s)
         (λ v. ap (frame past) (eqb-true (page_of k s) p (second_of (is_accepted reply) (page_of k s == p) v)) ∙ step.0.absent) (fill_block past who p f blocks reply step a s)
 
+    -- so they are after a fill whose blocks are the ones last sealed
     pub fill-clean : (past : History) (who p f : ℕ) (blocks : List (List ℕ)) (reply : Reply) → EventStep k x past (entry who (Fill p f) blocks reply) (Fill p f)
         → AreTrue k x past (places k (Fill p f) past) blocks → IsClean past → IsClean (entry who (Fill p f) blocks reply ∷ past)
     fill-clean past who p f blocks reply step a clean s =
@@ -113,6 +115,7 @@ module _ (k : Plan) (x : Seals) where
         (version k past s) (bytes k x past s) (last k x past s) (block_for (places k (Fill p f) past) blocks s)
         (fill_block past who p f blocks reply step a s) (clean s)
 
+    -- an evict changes no text: what the frame had is what opens from the block afterwards
     pub evict-text : (past : History) (who p f : ℕ) (blocks : List (List ℕ)) (reply : Reply) → EventStep k x past (entry who (Evict p f) blocks reply) (Evict p f)
         → IsClean past → (s : ℕ) → text past s ≡ text (entry who (Evict p f) blocks reply ∷ past) s
     evict-text past who p f blocks reply step clean s =
@@ -120,6 +123,7 @@ module _ (k : Plan) (x : Seals) where
         (version k past s) (bytes k x past s) (last k x past s) (rewritten k who (Evict p f) (opened k x (entry who (Evict p f) blocks reply) past s))
         (λ v. ap (λ (q : ℕ). is_some (frame past q)) (eqb-true (page_of k s) p v) ∙ ap (λ (u : Option ℕ). is_some u) step.0.present) (clean s)
 
+    -- and after an evict clean sub-pages in frames are as they were sealed
     pub evict-clean : (past : History) (who p f : ℕ) (blocks : List (List ℕ)) (reply : Reply) → IsClean past → IsClean (entry who (Evict p f) blocks reply ∷ past)
     evict-clean past who p f blocks reply clean s =
         evict_clean x opens (blank_bytes k) s (λ t. t) (evicts k (Evict p f) s) (is_dirty k past s) (is_sealed k past s) (frame past (page_of k s))

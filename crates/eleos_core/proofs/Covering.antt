@@ -17,7 +17,7 @@ use Rattle.eleos_core.specs.Legal.{CoreStep}
 use Rattle.eleos_core.specs.Order.{AreInOrder}
 use Rattle.eleos_core.specs.PartLaws.{IsLenOf}
 use Rattle.eleos_core.specs.Parts.{block_by, block_in, home_of_sub, is_in_block, is_zeroed}
-use Rattle.eleos_core.specs.Places.{all_pages, first_sub, is_sub_of, page_of, subs}
+use Rattle.eleos_base.specs.Places.{all_pages, first_sub, is_sub_of, page_of, subs}
 use Rattle.eleos_core.specs.Seals.{Seals}
 use Rattle.eleos_core.specs.State.{History, covers, entry, live}
 use Rattle.eleos_core.proofs.InOrder.{found-le, is_free_run-le}

@@ -29,6 +29,7 @@ module _ {A B : Type 0} (f : A → B) (P : A → Type 0) (one : (a b : A) → P 
   apart_map x [] p ps apart = tt
   apart_map x (y ∷ ys) p ps apart = (λ same. apart.0 (one x y p ps.0 same), apart_map x ys p ps.1 apart.1)
 
+  -- so no value stands twice among those of a list in which no item does
   pub AreDifferent_map : (xs : List A) → AllByRecursion P xs → AreDifferent xs → AreDifferent (map f xs)
   AreDifferent_map [] ps different = tt
   AreDifferent_map (x ∷ xs) ps different = (apart_map x xs ps.0 ps.1 different.0, AreDifferent_map xs ps.1 different.1)

@@ -16,7 +16,7 @@ use Rattle.eleos_core.specs.Cells.{Cells, IsPage, IsPresent, IsSubPage, IsUse, I
 use Rattle.eleos_core.specs.Fills.{AreFit, CanFillIn, IsFree, IsJudged, fill_stamp, page_in, sealed_places}
 use Rattle.eleos_core.specs.Legal.{IsActor}
 use Rattle.eleos_core.specs.Parts.{frame_cell, frame_in, holder_in, page_cell, part_after, the_frame, the_page}
-use Rattle.eleos_core.specs.Places.{all_frames, all_pages}
+use Rattle.eleos_base.specs.Places.{all_frames, all_pages}
 use Rattle.eleos_core.specs.Seals.{Seals}
 use Rattle.eleos_core.proofs.TwoCells.{frame_kept, frame_part_is, makes_both, page_kept, page_part_is}
 
@@ -34,6 +34,7 @@ present_within : (f n : ℕ) (o : Option Present) → f < n → IsPresent (f + 1
 present_within f n None inside kept = tt
 present_within f n (Some present) inside kept = (let below = kept.0 in omega arith, kept.1)
 
+-- of a frame's use, the page that is in it
 pub use_among : (p n : ℕ) (used : Use) → p < n → IsUse (p + 1) used → IsUse n used
 use_among p n (Free bytes) inside kept = kept
 use_among p n (Lent page) inside kept = omega arith
@@ -57,15 +58,19 @@ module _ (k : Plan) (live : List (List Live)) (clocks : List (List ℕ)) (pages 
   frame_was : parts_in old_cells (frame_cell k f) ≡ part_of_frame frame
   frame_was = frame_part_is k live clocks pages frames links core f frame_exists frame frame_is
 
+  -- the page that is to be filled has its 4 sub-pages
   pub fill_whole : length page.subs.items ≡ 4
   fill_whole = is_page.whole
 
+  -- it is in no frame
   pub fill_absent : page.present ≡ None
   fill_absent = is_absent page.present (ap frame_in (sym page_was) ∙ legal.absent)
 
+  -- the frame holds no page, and its bytes are zeros
   pub fill_free : IsFree frame.used
   fill_free = is_free (all_pages k) frame.used (frame_kept k live clocks pages frames links core f frame_exists frame frame_is) (ap holder_in (sym frame_was) ∙ legal.free)
 
+  -- blocks that came for the page by its cell came for the page in memory
   pub fill_fit : (cs : List (List ℕ)) → AreFit (sealed_places p (page_in old_cells p)) cs → AreFit (sealed_places p (part_of_page page)) cs
   fill_fit cs fit = subst (λ q. AreFit (sealed_places p q) cs) page_was fit
 
@@ -80,9 +85,11 @@ module _ (k : Plan) (live : List (List Live)) (clocks : List (List ℕ)) (pages 
   }
 
   module _ (x : Seals) (cs : List (List ℕ)) (count : ℕ) (reply : Reply) (judged : IsJudged k x p (part_of_page page) cs count reply) where
+    -- blocks that were judged by the page in memory are judged so by its cell
     pub fill_judged : IsJudged k x p (page_in old_cells p) cs count reply
     fill_judged = subst (λ q. IsJudged k x p q cs count reply) (sym page_was) judged
 
+    -- with that page and that frame the cells are what the fill makes of them
     pub fill_made : (page' : Page) (frame' : Frame) (who : ℕ) → IsActor k who
         → part_of_page page' ≡ part_after k x (fill_stamp who p f (take count cs) reply) (the_page p) (part_of_page page)
         → part_of_frame frame' ≡ part_after k x (fill_stamp who p f (take count cs) reply) (the_frame f) (part_of_frame frame)

@@ -18,7 +18,7 @@ use Rattle.eleos_core.specs.Cells.{Cells, IsPage, IsPresent, IsSubPage, IsUse, I
 use Rattle.eleos_core.specs.Evicts.{CanLeave, HasBytes, evict_stamp, sealed_blocks, sealed_sub}
 use Rattle.eleos_core.specs.Legal.{IsActor}
 use Rattle.eleos_core.specs.Parts.{SubPart, frame_cell, frame_in, frame_part, page_cell, page_part, part_after, sub_after, subs_in, the_frame, the_page}
-use Rattle.eleos_core.specs.Places.{all_frames, all_pages, page_of, per_page}
+use Rattle.eleos_base.specs.Places.{all_frames, all_pages, page_of, per_page}
 use Rattle.eleos_core.specs.Seals.{Seals}
 use Rattle.eleos_core.proofs.Pieces.{length-map_from, length-sub_parts, parts_with}
 use Rattle.eleos_core.proofs.PlaceNumbers.{page_has}
@@ -140,6 +140,7 @@ module _ (k : Plan) (live : List (List Live)) (clocks : List (List ℕ)) (pages 
     in_frame : frame_of_page page.present ≡ Some f
     in_frame = ap frame_in (sym page_was) ∙ present
 
+    -- a page of a core that is in its frame has its bytes there, and no sub-page was sealed too often to be sealed now
     pub can_leave : CanLeave page
     can_leave = record {
       whole = is_page.whole;
@@ -150,12 +151,14 @@ module _ (k : Plan) (live : List (List Live)) (clocks : List (List ℕ)) (pages 
 
     module _ (x : Seals) (page' : Page) (frame' : Frame)
         (page_made : part_of_page page' ≡ page_part None (map_from (sealed_sub x) (p * 4) (subs_in (part_of_page page)))) (frame_made : part_of_frame frame' ≡ frame_part frame.owner None) where
+      -- what holds of a machine's pages holds of the page that left its frame
       pub page_left : IsPage k.wear (all_frames k) page'
       page_left =
           let gone : frame_of_page page'.present ≡ None = ap frame_in page_made in
           let subs = subs_gone x k.wear f (p * 4) page.present page'.present page.subs.items page'.subs.items in_frame gone (ap subs_in page_made) is_page.each in
           record { whole = subs.1 ∙ is_page.whole; present = in_none (all_frames k) page'.present gone; each = subs.0 }
 
+      -- with that page and a frame that is free the cells are what the evict makes of them
       pub evict_made : (who : ℕ) → IsActor k who → Makes x (evict_stamp who p f) old_cells (cells_of k live clocks (slice_set pages p page') (slice_set frames f frame') links)
       evict_made who actor = makes_both k live clocks pages frames links core p page' f frame' page_exists frame_exists x (evict_stamp who p f) refl
           (record { within = (actor, page_exists, frame_exists); on_parts = (present, record { reply_is = refl; no_block = refl }) })
@@ -169,6 +172,7 @@ module _ (k : Plan) (live : List (List Live)) (clocks : List (List ℕ)) (pages 
           whole : length (subs_in (part_of_page page)) ≡ 4
           whole = length-sub_parts page.subs.items page.present ∙ is_page.whole
 
+    -- the sealed blocks of its dirty sub-pages are what the evict sends to the host
     pub evict_sent : (x : Seals) (who : ℕ) (sent : List (ℕ × List ℕ)) → sent ≡ sealed_blocks x (p * 4) (subs_in (part_of_page page)) → sent ≡ puts_in k x (evict_stamp who p f) (parts_in old_cells) (Evict p f)
     evict_sent x who sent sent_is = sent_is ∙ (blocks_sent k x who p f (subs_in (part_of_page page)) (length-sub_parts page.subs.items page.present ∙ is_page.whole)
         ∙ (ap (λ o. page_puts k x (evict_stamp who p f) p (page_part o (subs_in (part_of_page page)))) (sym in_frame) ∙ ap (page_puts k x (evict_stamp who p f) p) (sym page_was)))

@@ -13,8 +13,8 @@ use Rattle.eleos_core.specs.Fills.{CanFillIn, IsJudged, fill_stamp, page_in, the
 use Rattle.eleos_core.specs.Moves.{CanMoveIn, move_stamp}
 use Rattle.eleos_core.specs.Offences.{CanEvictIn, OffendsEvict, OffendsFill, OffendsMove}
 use Rattle.eleos_core.specs.Parts.{frame_in, owner_in}
-use Rattle.eleos_core.specs.Places as places
-use Rattle.eleos_core.specs.Places.{all_frames, all_pages}
+use Rattle.eleos_base.specs.Places as places
+use Rattle.eleos_base.specs.Places.{all_frames, all_pages}
 use Rattle.eleos_core.specs.Seals.{Seals}
 use Rattle.eleos_core.specs.State.{History, frame, is_owner, owner}
 use Rattle.eleos_core.proofs.Applied.{applies}
@@ -46,12 +46,14 @@ module _ (x : Seals) (old : Cells) where
   fill_part past p f Frame here offends = ap (λ (o : Option ℕ). if is_some o then Present else Frame) (sym offends.0 ∙ here)
   fill_part past p f _ here offends = absurd offends
 
+  -- a fill that was made on the cells was applied, with the blocks up to the first that does not pass
   pub fill_applied : (new : Cells) (who p f : ℕ) (given : List (List ℕ)) (count : ℕ) (reply : Reply) → p < all_pages old.plan → IsJudged old.plan x p (page_in old p) given count reply
       → Makes x (fill_stamp who p f (take count given) reply) old new → AlwaysApplies x old who (Fill p f) given reply [] new
   fill_applied new who p f given count reply inside judged makes past good run shows =
       applies old.plan x good past who (Fill p f) given (take count given) reply 0 old new [] refl run shows makes tt refl
       (sym (used_shown x old past shows p given inside) ∙ sym judged.used_are)
 
+  -- a fill that offends is illegal after each history that the cells show, by what it offends against
   pub fill_illegal : (who p f : ℕ) (given : List (List ℕ)) (part : Offence) → p < all_pages old.plan → OffendsFill old p f part → AlwaysIllegal x old who (Fill p f) given part
   fill_illegal who p f given part inside offends past good run shows = record {
     never = λ count reply step.
@@ -71,11 +73,13 @@ module _ (x : Seals) (old : Cells) where
   evict_part past p f Linked here offends = ap (λ v. if v then Linked else Absent) (sym (same_owner (Some f)) ∙ ap (λ (o : Option ℕ). is_owner o (Some f)) (sym offends.0 ∙ here))
   evict_part past p f _ here offends = absurd offends
 
+  -- an evict that was made on the cells was applied, and what it sent is what it seals
   pub evict_applied : (new : Cells) (who p f : ℕ) (sent : List Put) → p < all_pages old.plan → CanEvictIn old p f → Makes x (evict_stamp who p f) old new
       → map put_of sent ≡ puts_in old.plan x (evict_stamp who p f) (parts_in old) (Evict p f) → AlwaysApplies x old who (Evict p f) [] Done sent new
   evict_applied new who p f sent inside can makes puts past good run shows =
       applies old.plan x good past who (Evict p f) [] [] Done 0 old new sent refl run shows makes (unlinked_shown x old past shows run p inside can.unlinked) puts refl
 
+  -- one that offends is illegal
   pub evict_illegal : (who p f : ℕ) (part : Offence) → p < all_pages old.plan → OffendsEvict old p f part → AlwaysIllegal x old who (Evict p f) [] part
   evict_illegal who p f part inside offends past good run shows =
       let here : frame_in (page_in old p) ≡ frame past p = frame_shown x old past shows p inside in record {
@@ -98,9 +102,11 @@ module _ (x : Seals) (old : Cells) where
   move_part past f from Frame here offends = ap (λ v. if v then Frame else Owner) (sym (same_owner from) ∙ ap (λ (o : places.Owner). is_owner o from) (sym offends.0 ∙ here))
   move_part past f from _ here offends = absurd offends
 
+  -- a move that was made on the cells was applied
   pub move_applied : (new : Cells) (who f : ℕ) (from to : places.Owner) → Makes x (move_stamp who f from to) old new → AlwaysApplies x old who (Move f from to) [] Done [] new
   move_applied new who f from to makes past good run shows = applies old.plan x good past who (Move f from to) [] [] Done 0 old new [] refl run shows makes tt refl refl
 
+  -- one that offends is illegal
   pub move_illegal : (who f : ℕ) (from to : places.Owner) (part : Offence) → f < all_frames old.plan → OffendsMove old f from part → AlwaysIllegal x old who (Move f from to) [] part
   move_illegal who f from to part inside offends past good run shows = record {
     never = λ count reply step.

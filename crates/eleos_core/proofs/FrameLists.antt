@@ -1,17 +1,15 @@
--- Lists of numbers: sorted lists with the same numbers are one list, and which numbers differ.
-use Rattle.std.proofs.Common.{◌≡◌, ◌≢◌, ℕ, suc, ◌+◌, ◌<◌, ◌≤◌, List, [], ◌∷◌, length, Bool, true, false, cond, ◌==◌, ◌||◌, ◌&&◌, ◌⊎◌, inl, inr, nat_eq, nat_lt, slice_index_or, Result, Ok, Err, is_ok, refl, sym, ◌∙◌, ap, subst, arith, IsPermutation, Contains}
-use Rattle.std.specs.List.{IsDistinct, IsAllAdjacentAnswer, list_all, list_any, count_by}
-use Rattle.std.specs.List.Sorted.{IsNonDecreasing, IsBinarySearchResult}
-use Rattle.std.specs.Cmp.Lexicographic.{other_text, pointwise, same_text}
-use Rattle.std.specs.Ordering.{nat_cmp}
-use Rattle.std.proofs.lemmas.Bool.{cases_lt, eqb-true, eqb-false, eq-eqb, ltb-true, ltb-false, ne_eqb}
+-- Lists of numbers by how often each number stands in them: which have the same numbers, and whose numbers differ.
+use Rattle.std.proofs.Common.{◌≡◌, ℕ, zero, suc, ◌+◌, ◌<◌, ◌≤◌, List, [], ◌∷◌, length, Bool, true, false, cond, ◌==◌, ◌&&◌, nat_eq, slice_index_or, refl, sym, ◌∙◌, ap, subst, arith, IsPermutation, Contains}
+use Rattle.std.specs.List.{AllByRecursion, IsDistinct, list_all, list_any, count_by, remove}
+use Rattle.std.proofs.lemmas.Bool.{and_parts, and_from, eqb-true, eqb-false, eq-eqb, ne_eqb}
 use Rattle.std.proofs.lemmas.Bool.Decides.{Decides-eqb}
 use Rattle.std.proofs.lemmas.Cmp.{nat_eq_equiv}
-use Rattle.std.proofs.lemmas.List.Folds.{list_any_at}
-use Rattle.std.proofs.lemmas.List.Sorted.{IsPermutation-sym, IsPermutation-trans, list_any-IsPermutation, searched, sum_by-IsPermutation}
+use Rattle.std.proofs.lemmas.List.Sorted.{IsPermutation-cons, IsPermutation-refl, IsPermutation-remove, IsPermutation-sym, IsPermutation-trans, sum_by-IsPermutation}
 use Rattle.std.proofs.lemmas.List.Sums.{sum_by-cons}
-use Rattle.std.proofs.lemmas.Map.Keys.{IsDistinct-IsPermutation, IsDistinct-from_apart, apart_from_distinct}
+use Rattle.std.proofs.lemmas.Map.Keys.{IsDistinct-from_apart, IsDistinct-head, IsDistinct-tail}
 use Rattle.std.proofs.lemmas.Map.Made.{is_member-Decides, length-le_from_is_member}
+use Rattle.eleos_base.specs.declared.memory.Looked.{Looked}
+use Rattle.eleos_core.specs.Sweeps.{frames_in}
 use Rattle.eleos_core.proofs.Tests.{by_test}
 
 -- how often the number stands in the list
@@ -19,7 +17,7 @@ abbrev times : ℕ → List ℕ → ℕ
 times v [] = 0
 times v (x ∷ xs) = cond (x == v) 1 0 + times v xs
 
-times_are : (v : ℕ) (xs : List ℕ) → count_by (λ x. x == v) xs ≡ times v xs
+pub times_are : (v : ℕ) (xs : List ℕ) → count_by (λ x. x == v) xs ≡ times v xs
 times_are v [] = refl
 times_are v (x ∷ xs) = sum_by-cons (λ x. cond (x == v) 1 0) x xs ∙ ap (λ n. cond (x == v) 1 0 + n) (times_are v xs)
 
@@ -29,116 +27,154 @@ times_same xs ys same v = sym (times_are v xs) ∙ (sym (sum_by-IsPermutation (�
 times_here : (v : ℕ) (xs : List ℕ) → times v (v ∷ xs) ≡ 1 + times v xs
 times_here v xs = ap (λ b. cond b 1 0 + times v xs) (eq-eqb v v refl)
 
--- a number of the list is no lower than its lower bound
-no_lower : (low v : ℕ) (xs : List ℕ) → ((j : ℕ) → j < length xs → low ≤ slice_index_or xs j 0) → 1 ≤ times v xs → low ≤ v
-no_lower low v [] bound some = absurd (omega arith)
-no_lower low v (x ∷ xs) bound some = by_test (x == v) (λ b. 1 ≤ cond b 1 0 + times v xs → low ≤ v)
-    (λ yes_is here. let same : x ≡ v = eqb-true x v yes_is in let first : low ≤ x = bound 0 (omega arith) in omega arith)
-    (λ no_is later. let rest : 1 ≤ times v xs = omega arith in no_lower low v xs (λ j inside. bound (suc j) (omega arith)) rest) some
-
-rises_tail : (x : ℕ) (xs : List ℕ) → IsNonDecreasing (x ∷ xs) → IsNonDecreasing xs
-rises_tail x xs rises i j d upto inside = rises (suc i) (suc j) d (omega arith) (omega arith)
-
-rises_from : (x : ℕ) (xs : List ℕ) → IsNonDecreasing (x ∷ xs) → (j : ℕ) → j < length (x ∷ xs) → x ≤ slice_index_or (x ∷ xs) j 0
-rises_from x xs rises j inside = rises 0 j 0 (omega arith) inside
-
 less : (a b m n : ℕ) → a + m ≡ b + n → a ≡ b → m ≡ n
 less a b m n both first = omega arith
 
--- two sorted lists that have the same numbers are one list
-one_order : (xs ys : List ℕ) → IsNonDecreasing xs → IsNonDecreasing ys → ((v : ℕ) → times v xs ≡ times v ys) → xs ≡ ys
-one_order [] [] rises rises' same = refl
-one_order [] (y ∷ ys) rises rises' same = let h = same y in let t = times_here y ys in absurd (omega arith)
-one_order (x ∷ xs) [] rises rises' same = let h = same x in let t = times_here x xs in absurd (omega arith)
-one_order (x ∷ xs) (y ∷ ys) rises rises' same =
-    let here : times x (x ∷ xs) ≡ 1 + times x xs = times_here x xs in
-    let there : times y (y ∷ ys) ≡ 1 + times y ys = times_here y ys in
-    let at_x : times x (x ∷ xs) ≡ times x (y ∷ ys) = same x in
-    let at_y : times y (x ∷ xs) ≡ times y (y ∷ ys) = same y in
-    let low : x ≤ y = no_lower x y (x ∷ xs) (rises_from x xs rises) (omega arith) in
-    let high : y ≤ x = no_lower y x (y ∷ ys) (rises_from y ys rises') (omega arith) in
-    let first : x ≡ y = omega arith in
-    let rest : xs ≡ ys = one_order xs ys (rises_tail x xs rises) (rises_tail y ys rises')
-    (λ v. less (cond (x == v) 1 0) (cond (y == v) 1 0) (times v xs) (times v ys) (same v) (ap (λ z. cond (z == v) 1 0) first)) in
-    λ i. first i ∷ rest i
+-- where a number that stands in the list stands
+found_at : (x : ℕ) (ys : List ℕ) → 1 ≤ times x ys → (i : ℕ) × (i < length ys) × (x ≡ slice_index_or ys i x)
+found_at x [] some = absurd (omega arith)
+found_at x (y ∷ ys) some = by_test (y == x) (λ b. 1 ≤ cond b 1 0 + times x ys → (i : ℕ) × (i < length (y ∷ ys)) × (x ≡ slice_index_or (y ∷ ys) i x))
+    (λ yes_is here. (0, (omega arith), sym (eqb-true y x yes_is)))
+    (λ no_is later. let rest : 1 ≤ times x ys = omega arith in let r = found_at x ys rest in (suc r.0, (let inside = r.1 in omega arith), r.2))
+    some
 
--- lists with the same numbers have one sorted copy, and the other way round
-sorted_alike : (xs ys us vs : List ℕ) → IsPermutation xs us → IsPermutation ys vs → IsNonDecreasing us → IsNonDecreasing vs → IsPermutation xs ys → us ≡ vs
-sorted_alike xs ys us vs to_us to_vs rises rises' same = one_order us vs rises rises'
-    (times_same us vs (IsPermutation-trans us ys vs (IsPermutation-trans us xs ys (IsPermutation-sym xs us to_us) same) to_vs))
+-- lists in which each number stands as often have the same numbers
+permuted : (xs ys : List ℕ) → ((v : ℕ) → times v xs ≡ times v ys) → IsPermutation xs ys
+permuted [] [] same = IsPermutation-refl []
+permuted [] (y ∷ ys) same = let h = same y in let t = times_here y ys in absurd (omega arith)
+permuted (x ∷ xs) ys same =
+    let here : 1 ≤ times x ys = (let h = same x in let t = times_here x xs in omega arith) in
+    let r = found_at x ys here in
+    let rest : List ℕ = remove ys r.0 in
+    let split : IsPermutation ys (x ∷ rest) = IsPermutation-remove ys r.0 x r.1 r.2 in
+    let alike : (v : ℕ) → times v xs ≡ times v rest = λ v. less (cond (x == v) 1 0) (cond (x == v) 1 0) (times v xs) (times v rest) (same v ∙ times_same ys (x ∷ rest) split v) refl in
+    IsPermutation-trans (x ∷ xs) (x ∷ rest) ys (IsPermutation-cons x xs rest (permuted xs rest alike)) (IsPermutation-sym ys (x ∷ rest) split)
 
-same_from_sorted : (xs ys us vs : List ℕ) → IsPermutation xs us → IsPermutation ys vs → us ≡ vs → IsPermutation xs ys
-same_from_sorted xs ys us vs to_us to_vs is = IsPermutation-trans xs vs ys (subst (IsPermutation xs) is to_us) (IsPermutation-sym ys vs to_vs)
+-- each number of the third list stands in the first as often as in the second
+abbrev all_alike : List ℕ → List ℕ → List ℕ → Bool
+all_alike xs ys zs = list_all (λ v. times v xs == times v ys) zs
 
-eq_flips : (x y : ℕ) → nat_eq x y ≡ nat_eq y x
-eq_flips x y = by_test (nat_eq y x) (λ b. nat_eq x y ≡ b)
-    (λ yes_is. eq-eqb x y (sym (eqb-true y x yes_is)))
-    (λ no_is. ne_eqb x y (λ same. eqb-false y x no_is (sym same)))
+alike_at : (xs ys zs : List ℕ) → all_alike xs ys zs ≡ true → (v : ℕ) → 1 ≤ times v zs → times v xs ≡ times v ys
+alike_at xs ys [] all v some = absurd (omega arith)
+alike_at xs ys (z ∷ zs) all v some =
+    let parts = and_parts (times z xs == times z ys) (all_alike xs ys zs) all in
+    by_test (z == v) (λ b. 1 ≤ cond b 1 0 + times v zs → times v xs ≡ times v ys)
+    (λ yes_is here. subst (λ w. times w xs ≡ times w ys) (eqb-true z v yes_is) (eqb-true (times z xs) (times z ys) parts.0))
+    (λ no_is later. let rest : 1 ≤ times v zs = omega arith in alike_at xs ys zs parts.1 v rest)
+    some
 
--- the numbers of a sorted list differ just where each is above the one before it
-pub rising_decides : (xs : List ℕ) (r : Bool) → IsNonDecreasing xs → IsAllAdjacentAnswer (λ x y b. b ≡ nat_lt x y) xs r
-    → (r ≡ true → IsDistinct nat_eq xs) × (IsDistinct nat_eq xs → r ≡ true)
-rising_decides xs true rises answer = (
-  (λ _. IsDistinct-from_apart nat_eq xs (λ i j d below inside.
-      let next : i + 1 ≤ j = omega arith in
-      let above : slice_index_or xs i d < slice_index_or xs (i + 1) d = ltb-true _ _ (sym (answer i d (omega arith))) in
-      let later : slice_index_or xs (i + 1) d ≤ slice_index_or xs j d = rises (i + 1) j d next inside in
-      ne_eqb _ _ (λ same. absurd (omega arith)))),
-  (λ _. refl),
-)
-rising_decides xs false rises answer = (
-  (λ is. absurd (cc)),
-  (λ distinct.
-      let k : ℕ = answer.0 in
-      let inside : k + 1 < length xs = answer.1 in
-      let down : slice_index_or xs (k + 1) 0 ≤ slice_index_or xs k 0 = ltb-false _ _ (sym (answer.2 0)) in
-      let up : slice_index_or xs k 0 ≤ slice_index_or xs (k + 1) 0 = rises k (k + 1) 0 (omega arith) inside in
-      absurd (eqb-false _ _ (apart_from_distinct nat_eq xs k (k + 1) 0 distinct (omega arith) inside) (omega arith))),
-)
+alike_all : (xs ys zs : List ℕ) → ((v : ℕ) → times v xs ≡ times v ys) → all_alike xs ys zs ≡ true
+alike_all xs ys [] same = refl
+alike_all xs ys (z ∷ zs) same = and_from (times z xs == times z ys) (all_alike xs ys zs) (eq-eqb (times z xs) (times z ys) (same z)) (alike_all xs ys zs same)
 
--- and so do those of the list that was sorted
-pub distinct_decides : (xs ys : List ℕ) (r : Bool) → IsPermutation xs ys → (r ≡ true → IsDistinct nat_eq ys) × (IsDistinct nat_eq ys → r ≡ true)
-    → (r ≡ true → IsDistinct nat_eq xs) × (IsDistinct nat_eq xs → r ≡ true)
-distinct_decides xs ys r same decides = (
-  (λ is. IsDistinct-IsPermutation nat_eq eq_flips ys xs (IsPermutation-sym xs ys same) (decides.0 is)),
-  (λ distinct. decides.1 (IsDistinct-IsPermutation nat_eq eq_flips xs ys same distinct)),
-)
-
-none_is : (x : ℕ) (xs : List ℕ) → ((k : ℕ) → k < length xs → slice_index_or xs k 0 ≢ x) → list_any (nat_eq x) xs ≡ false
-none_is x [] differ = refl
-none_is x (y ∷ ys) differ = ap (λ b. b || list_any (nat_eq x) ys) (ne_eqb x y (λ same. differ 0 (omega arith) (sym same))) ∙ none_is x ys (λ k inside. differ (suc k) (omega arith))
-
--- a search in a sorted list finds what stands in it
-pub found_in : (xs : List ℕ) (x : ℕ) (r : Result ℕ ℕ) → IsNonDecreasing xs → IsBinarySearchResult (λ y. nat_cmp y x) xs r → is_ok r ≡ list_any (nat_eq x) xs
-found_in xs x (Ok i) rises answer =
-    let here : (i < length xs) × (slice_index_or xs i 0 ≡ x) = searched xs x (Ok i) answer (λ a b. rises a b 0) in
-    sym (list_any_at (nat_eq x) xs i 0 here.0 (eq-eqb x (slice_index_or xs i 0) (sym here.1)))
-found_in xs x (Err i) rises answer =
-    let none : (i ≤ length xs) × ((k : ℕ) → k < i → slice_index_or xs k 0 < x) × ((k : ℕ) → i ≤ k → k < length xs → x < slice_index_or xs k 0) = searched xs x (Err i) answer (λ a b. rises a b 0) in
-    sym (none_is x xs (λ k inside same. differs k (slice_index_or xs k 0) (cases_lt k i) (none.1 k) (λ above. none.2 k above inside) same))
+-- where that is so of the numbers of both, it is so of all
+alike_everywhere : (xs ys : List ℕ) → all_alike xs ys xs ≡ true → all_alike xs ys ys ≡ true → (v : ℕ) → times v xs ≡ times v ys
+alike_everywhere xs ys all all' v = by_first (times v xs) refl
   where
-    differs : (k v : ℕ) → (k < i) ⊎ (i ≤ k) → (k < i → v < x) → (i ≤ k → x < v) → v ≡ x → ⊥
-    differs k v (inl below) low high same = let less = low below in omega arith
-    differs k v (inr above) low high same = let more = high above in omega arith
+    by_second : (n : ℕ) → times v ys ≡ n → times v xs ≡ 0 → times v xs ≡ times v ys
+    by_second zero is none = none ∙ sym is
+    by_second (suc n) is none = alike_at xs ys ys all' v (omega arith)
 
--- the same numbers stand in a list and in its sorted copy
-pub listed_alike : (list sorted : List ℕ) → IsPermutation list sorted → (xs : List ℕ) → list_all (λ x. list_any (nat_eq x) sorted) xs ≡ list_all (λ x. list_any (nat_eq x) list) xs
-listed_alike list sorted same [] = refl
-listed_alike list sorted same (x ∷ xs) = λ i. sym (list_any-IsPermutation (nat_eq x) list sorted same) i && listed_alike list sorted same xs i
+    by_first : (m : ℕ) → times v xs ≡ m → times v xs ≡ times v ys
+    by_first zero is = by_second (times v ys) refl is
+    by_first (suc m) is = alike_at xs ys xs all v (omega arith)
+
+-- how often a sweep names a frame
+named_are : (v : ℕ) (sweep : List Looked) → count_by (λ (seen : Looked). seen.frame == v) sweep ≡ times v (frames_in sweep)
+named_are v [] = refl
+named_are v (seen ∷ sweep) = sum_by-cons (λ (s : Looked). cond (s.frame == v) 1 0) seen sweep ∙ ap (λ n. cond (seen.frame == v) 1 0 + n) (named_are v sweep)
+
+-- a sweep and a list, by counts of each frame where it stands
+module _ (sweep : List Looked) (list : List ℕ) where
+  abbrev pub is_alike : ℕ → Bool
+  is_alike v = count_by (λ (other : Looked). other.frame == v) sweep == count_by (λ frame. frame == v) list
+
+  alike_is : (v : ℕ) → is_alike v ≡ (times v (frames_in sweep) == times v list)
+  alike_is v = λ i. named_are v sweep i == times_are v list i
+
+  seen_are : (more : List Looked) → list_all (λ (seen : Looked). is_alike seen.frame) more ≡ all_alike (frames_in sweep) list (frames_in more)
+  seen_are [] = refl
+  seen_are (seen ∷ more) = λ i. alike_is seen.frame i && seen_are more i
+
+  listed_are : (more : List ℕ) → list_all is_alike more ≡ all_alike (frames_in sweep) list more
+  listed_are [] = refl
+  listed_are (frame ∷ more) = λ i. alike_is frame i && listed_are more i
+
+  -- these counts decide whether both have the same frames
+  pub same_decides : (r : Bool) → r ≡ (list_all (λ (seen : Looked). is_alike seen.frame) sweep && list_all is_alike list)
+      → (r ≡ true → IsPermutation (frames_in sweep) list) × (IsPermutation (frames_in sweep) list → r ≡ true)
+  same_decides r is =
+      let tests : r ≡ (all_alike (frames_in sweep) list (frames_in sweep) && all_alike (frames_in sweep) list list) = is ∙ (λ i. seen_are sweep i && listed_are list i) in (
+        (λ yes. let parts = and_parts (all_alike (frames_in sweep) list (frames_in sweep)) (all_alike (frames_in sweep) list list) (sym tests ∙ yes) in
+            permuted (frames_in sweep) list (alike_everywhere (frames_in sweep) list parts.0 parts.1)),
+        (λ same. let alike = times_same (frames_in sweep) list same in
+            tests ∙ and_from _ _ (alike_all (frames_in sweep) list (frames_in sweep) alike) (alike_all (frames_in sweep) list list alike)),
+      )
+
+-- each number of the second list stands once in the first
+abbrev all_once : List ℕ → List ℕ → Bool
+all_once xs zs = list_all (λ v. times v xs == 1) zs
+
+once_at : (xs zs : List ℕ) (i d : ℕ) → all_once xs zs ≡ true → i < length zs → times (slice_index_or zs i d) xs ≡ 1
+once_at xs [] i d all inside = absurd (omega arith)
+once_at xs (z ∷ zs) zero d all inside = eqb-true (times z xs) 1 (and_parts (times z xs == 1) (all_once xs zs) all).0
+once_at xs (z ∷ zs) (suc i) d all inside = once_at xs zs i d (and_parts (times z xs == 1) (all_once xs zs) all).1 (omega arith)
+
+stands : (xs : List ℕ) (i d : ℕ) → i < length xs → 1 ≤ times (slice_index_or xs i d) xs
+stands [] i d inside = absurd (omega arith)
+stands (x ∷ xs) zero d inside = let t = times_here x xs in omega arith
+stands (x ∷ xs) (suc i) d inside = let h = stands xs i d (omega arith) in omega arith
+
+-- a number at two places stands there twice
+stands_twice : (xs : List ℕ) (i j d : ℕ) → i < j → j < length xs → slice_index_or xs i d ≡ slice_index_or xs j d → 2 ≤ times (slice_index_or xs i d) xs
+stands_twice [] i j d below inside same = absurd (omega arith)
+stands_twice (x ∷ xs) i zero d below inside same = absurd (omega arith)
+stands_twice (x ∷ xs) zero (suc j) d below inside same =
+    let t = times_here x xs in
+    let later : 1 ≤ times x xs = subst (λ v. 1 ≤ times v xs) (sym same) (stands xs j d (omega arith)) in omega arith
+stands_twice (x ∷ xs) (suc i) (suc j) d below inside same = let h = stands_twice xs i j d (omega arith) (omega arith) same in omega arith
+
+absent : (x : ℕ) (xs : List ℕ) → AllByRecursion (λ y. nat_eq x y ≡ false) xs → times x xs ≡ 0
+absent x [] all = refl
+absent x (y ∷ ys) all = (λ i. cond (ne_eqb y x (λ same. eqb-false x y all.0 (sym same)) i) 1 0 + absent x ys all.1 i)
+
+-- numbers that differ stand once each
+at_most_once : (xs : List ℕ) → IsDistinct nat_eq xs → (v : ℕ) → times v xs ≤ 1
+at_most_once [] distinct v = omega arith
+at_most_once (x ∷ xs) distinct v = by_test (x == v) (λ b. cond b 1 0 + times v xs ≤ 1)
+    (λ yes_is. let none : times x xs ≡ 0 = absent x xs (IsDistinct-head nat_eq x xs distinct) in
+    let same : times v xs ≡ 0 = subst (λ w. times w xs ≡ 0) (eqb-true x v yes_is) none in omega arith)
+    (λ no_is. let most : times v xs ≤ 1 = at_most_once xs (IsDistinct-tail nat_eq x xs distinct) v in omega arith)
+
+all_once_of : (xs zs : List ℕ) → ((v : ℕ) → 1 ≤ times v zs → times v xs ≡ 1) → all_once xs zs ≡ true
+all_once_of xs [] once = refl
+all_once_of xs (z ∷ zs) once = and_from (times z xs == 1) (all_once xs zs)
+    (eq-eqb (times z xs) 1 (once z (let t = times_here z zs in omega arith))) (all_once_of xs zs (λ v some. once v (omega arith)))
+
+-- counts of each frame decide whether the sweep names none twice
+module _ (sweep : List Looked) where
+  once_are : (more : List Looked) → list_all (λ (seen : Looked). count_by (λ (other : Looked). other.frame == seen.frame) sweep == 1) more ≡ all_once (frames_in sweep) (frames_in more)
+  once_are [] = refl
+  once_are (seen ∷ more) = λ i. (named_are seen.frame sweep i == 1) && once_are more i
+
+  pub distinct_decides : (r : Bool) → r ≡ list_all (λ (seen : Looked). count_by (λ (other : Looked). other.frame == seen.frame) sweep == 1) sweep
+      → (r ≡ true → IsDistinct nat_eq (frames_in sweep)) × (IsDistinct nat_eq (frames_in sweep) → r ≡ true)
+  distinct_decides r is = (
+    (λ yes. IsDistinct-from_apart nat_eq (frames_in sweep) (λ i j d below inside.
+        ne_eqb (slice_index_or (frames_in sweep) i d) (slice_index_or (frames_in sweep) j d) (λ same.
+        let twice = stands_twice (frames_in sweep) i j d below inside same in
+        let once = once_at (frames_in sweep) (frames_in sweep) i d (sym (once_are sweep) ∙ (sym is ∙ yes)) (omega arith) in omega arith))),
+    (λ distinct. is ∙ (once_are sweep ∙ all_once_of (frames_in sweep) (frames_in sweep) (λ v some. let most = at_most_once (frames_in sweep) distinct v in omega arith))),
+  )
 
 -- a number stands in a list just where it is found there
 pub member_from : (x : ℕ) (xs : List ℕ) → list_any (nat_eq x) xs ≡ true → Contains xs x
 member_from x xs = (is_member-Decides Decides-eqb xs x).0
 
+-- the other way round: what stands in it is found
 pub member_into : (x : ℕ) (xs : List ℕ) → Contains xs x → list_any (nat_eq x) xs ≡ true
 member_into x xs = (is_member-Decides Decides-eqb xs x).1
 
 -- numbers that differ and stand in a list are no more than the list has
 pub no_longer : (xs ys : List ℕ) → IsDistinct nat_eq xs → ((x : ℕ) → list_any (nat_eq x) xs ≡ true → list_any (nat_eq x) ys ≡ true) → length xs ≤ length ys
 no_longer xs ys distinct listed = length-le_from_is_member nat_eq_equiv xs ys distinct listed
-
--- a test whether the sorted copies are alike decides whether the lists have the same numbers
-pub same_decides : (xs ys us vs : List ℕ) (r : Bool) → IsPermutation xs us → IsPermutation ys vs → IsNonDecreasing us → IsNonDecreasing vs → r ≡ pointwise nat_eq us vs
-    → (r ≡ true → IsPermutation xs ys) × (IsPermutation xs ys → r ≡ true)
-same_decides xs ys us vs true to_us to_vs rises rises' is = ((λ _. same_from_sorted xs ys us vs to_us to_vs (same_text us vs is)), (λ _. refl))
-same_decides xs ys us vs false to_us to_vs rises rises' is = ((λ wrong. absurd (cc)), (λ same. absurd (other_text us vs is (sorted_alike xs ys us vs to_us to_vs rises rises' same))))

@@ -9,6 +9,7 @@ use Rattle.eleos_base.specs.Lists.{first_from}
 use Rattle.eleos_base.specs.Plain.{lowest_run, is_free_run, is_apart, with_block}
 use Rattle.eleos_core.specs.Order.{AreInOrder}
 
+-- what follows both where a test holds and where it fails
 pub by_test : {A : Type 0} (b : Bool) → (b ≡ true → A) → (b ≡ false → A) → A
 by_test true holds fails = holds refl
 by_test false holds fails = fails refl
@@ -19,9 +20,11 @@ is_le a b le = grind (arith, nat_tests)
 pub not_le : (a b : ℕ) → b < a → nat_le a b ≡ false
 not_le a b lt = grind (arith, nat_tests)
 
+-- a is no more than b where the test for it holds
 pub le_of : (a b : ℕ) → nat_le a b ≡ true → a ≤ b
 le_of a b holds = grind (arith, nat_tests)
 
+-- and more where it fails
 pub lt_of : (a b : ℕ) → nat_le a b ≡ false → b < a
 lt_of a b fails = grind (arith, nat_tests)
 
@@ -79,9 +82,11 @@ met front back b subs start len meets = rw (list_all-append (is_apart start len)
 meets : (start len : ℕ) (b : Live) → start < b.start + b.len → b.start < start + len → is_apart start len b ≡ false
 meets start len b below above = rw (not_le (b.start + b.len) start below, not_le (start + len) b.start above)
 
+-- a is less than b where the test for it holds
 pub nat_lt_of : (a b : ℕ) → nat_lt a b ≡ true → a < b
 nat_lt_of a b low = grind (arith, nat_tests)
 
+-- and no less where it fails
 pub nat_ge_of : (a b : ℕ) → nat_lt a b ≡ false → b ≤ a
 nat_ge_of a b high = grind (arith, nat_tests)
 
@@ -147,9 +152,11 @@ module _ (blocks : List Live) (subs len end i : ℕ) (some : 1 ≤ len) (whole :
   pub no_gap : length blocks ≤ i → subs - end < len → None ≡ lowest_run blocks subs len
   no_gap over narrow = (let found = rw (drop_all i blocks over, not_le _ _ narrow) at lowest in found)
 
+  -- the next block and those behind it are in order
   pub order_here : (d : Live) → i < length blocks → AreInOrder end subs (get_or blocks i d ∷ drop (i + 1) blocks)
   order_here d within = rw (add-one) (rw (drop-cons blocks i d within) at order)
 
+  -- and the next block ends within the sub-pages
   pub ends_here : (d : Live) → i < length blocks → (get_or blocks i d).start + (get_or blocks i d).len ≤ subs
   ends_here d within = AreInOrder-le _ subs _ (order_here d within).2
 

@@ -6,8 +6,8 @@ use Rattle.eleos_base.specs.declared.plan.Plan.{Plan}
 use Rattle.eleos_base.specs.declared.plan.EnclavePlan.{EnclavePlan}
 use Rattle.eleos_base.specs.Plans.{IsGood}
 use Rattle.eleos_core.specs.declared.event.Entry.{Entry}
-use Rattle.eleos_core.specs.Laws.{AreDifferent, FreshNonces, IsRun}
-use Rattle.eleos_core.specs.Places.{all_pages, all_subs, per_page}
+use Rattle.eleos_core.specs.Laws.{AreDifferent, FreshNonces, IsLegalRun}
+use Rattle.eleos_base.specs.Places.{all_pages, all_subs, per_page}
 use Rattle.eleos_core.specs.Seals.{nonce_of, seals_by}
 use Rattle.eleos_core.specs.State.{History, is_sealing, sealings, sealings_of, version}
 use Rattle.eleos_core.proofs.Differences.{AreDifferent_append, AreDifferent_map, all_append, all_of, all_of_both}
@@ -108,7 +108,7 @@ few_subs k good =
     omega (arith, same, most)
 
 -- so places and versions fit a nonce
-sealings_numbered : (k : Plan) (key : List ℕ) (h : History) → IsRun k key h → AllByRecursion IsNumbered (sealings k h)
+sealings_numbered : (k : Plan) (key : List ℕ) (h : History) → IsLegalRun k key h → AllByRecursion IsNumbered (sealings k h)
 sealings_numbered k key h run = all_of_both (λ sealing. sealing.0 < all_pages k * per_page k) (λ sealing. sealing.1 ≤ version k h sealing.0) IsNumbered
     (λ sealing below most. record {
       place = (let few = few_subs k run.good in omega (arith, few, below));
@@ -117,7 +117,7 @@ sealings_numbered k key h run = all_of_both (λ sealing. sealing.0 < all_pages k
     (sealings k h) (sealings_below k h) (sealings_most k h)
 
 -- no nonce is used twice, and no version is above the wear limit
-pub fresh_nonces : (k : Plan) (key : List ℕ) (h : History) → IsRun k key h → FreshNonces k h
+pub fresh_nonces : (k : Plan) (key : List ℕ) (h : History) → IsLegalRun k key h → FreshNonces k h
 fresh_nonces k key h run = record {
   once = AreDifferent_map (λ sealing. nonce_of sealing.0 sealing.1) IsNumbered nonce_of_inj (sealings k h) (sealings_numbered k key h run) (sealings_different k h);
   worn_at_most = λ s. (can_seal k (seals_by key) h run.legal s).most;

@@ -14,7 +14,7 @@ use Rattle.eleos_core.specs.Cells.{Cells, links_in}
 use Rattle.eleos_core.specs.Legal.{CoreRun, CoreStep, IsWithin}
 use Rattle.eleos_core.specs.PartLaws.{IsLenOf, LinksAllow, PartsFollow}
 use Rattle.eleos_core.specs.Parts.{Part, Stamp, MayStep, CallOn, EventOn, after_at, foot, len_at, live_in, part_at, part_of}
-use Rattle.eleos_core.specs.Places.{all_pages}
+use Rattle.eleos_base.specs.Places.{all_pages}
 use Rattle.eleos_core.specs.Seals.{Seals}
 use Rattle.eleos_core.specs.State.{History, links, links_by}
 use Rattle.eleos_core.proofs.Judging.{parts_judge}
@@ -39,6 +39,7 @@ module _ (k : Plan) (x : Seals) (good : IsGood k) where
   len_call past d (Read at n) within step = tt
   len_call past d (Write at new) within step = tt
 
+  -- so does the stamp of every event: where no block is freed or shared there is nothing to say
   pub len_is : (past : History) (d : Stamp) (event : Event) → IsWithin k d.entry.who event → EventOn k x d (part_at k x past) event → IsLenOf k past d.entry.who event d.len
   len_is past d (Op op) within step = len_call past d op within step
   len_is past d (Link at) within step = tt
@@ -55,6 +56,7 @@ module _ (k : Plan) (x : Seals) (good : IsGood k) where
     pub legal : CoreStep k x past d.entry
     pub shown : Shows x (d.entry ∷ past) new
 
+  -- so the entry is legal after the history, and the cells then show the history with it
   pub next : (past : History) (d : Stamp) (old new : Cells) → old.plan ≡ k → CoreRun k x past → Shows x past old → Makes x d old new → LinksAllow k past d.entry.who d.entry.event → Next past d new
   next past d old new same run shows makes allow =
       let made : Makes x d old new = makes in

@@ -70,6 +70,7 @@ module _ (k : Plan) (x : Seals) where
   }
   frames_agree_step past who _ blocks reply step h = record { held = h.held; framed = h.framed }
 
+  -- after every legal history the frame of each page holds it, and the page that a frame holds is in it
   pub frames_agree : (h : History) → CoreRun k x h → FramesAgree h
   frames_agree [] run = record { held = λ p f e. cc; framed = λ f p e. cc }
   frames_agree (e ∷ past) run = frames_agree_step past e.who e.event e.blocks e.reply run.0 (frames_agree past run.1)
@@ -85,5 +86,6 @@ none_held k past agree f free = by_holder (holder past f) refl where
   by_holder None is = refl
   by_holder (Some p) is = absurd (free p (agree.framed f p is))
 
+-- and where a frame holds none, no page is in it
 pub free_frame : (k : Plan) (past : History) → FramesAgree past → (f : ℕ) → holder past f ≡ None → IsFreeFrame k past f
 free_frame k past agree f none p is = let held = agree.held p f is in cc

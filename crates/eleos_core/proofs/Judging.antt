@@ -15,7 +15,7 @@ use Rattle.eleos_core.specs.declared.event.Event.TheVariants.{Op, Link, Unlink, 
 use Rattle.eleos_core.specs.Legal.{ByBlocks, EventStep, IsPlainly, IsWithin, access_refusal, is_worn, verdict}
 use Rattle.eleos_core.specs.PartLaws.{IsLenOf, LinksAllow, PartsAllow, PartsJudge}
 use Rattle.eleos_core.specs.Parts.{EventOn, Part, Stamp, SubPart, alloc_cell, block_at, clock_cell, found_in, frame_in, is_worn_in, len_at, list_in, live_in, part_at, part_of, places_in, refusal_in, sub_in, subs_in, verdict_in}
-use Rattle.eleos_core.specs.Places.{all_pages, home_of, page_of, sub_of, subs}
+use Rattle.eleos_base.specs.Places.{all_pages, home_of, page_of, sub_of, subs}
 use Rattle.eleos_core.specs.Seals.{Seals}
 use Rattle.eleos_core.specs.State.{History, address_of, entry, found, frame, frames_of, is_present, live}
 use Rattle.eleos_core.specs.Sweeps.{IsTaken, SurveyReply}
@@ -50,6 +50,7 @@ module _ (k : Plan) (x : Seals) (past : History) where
       (same_at (λ (text : List ℕ). ByBlocks (verdict k x past e.event blocks) (answer text) reply) (found_on (cell_part k x past p)) (found k x e past s) texts)) in
       (λ _ h. both.0 h, λ _ h. both.1 h)
 
+  -- by its part a sub-page is worn just where it is after the history
   pub worn_here : (s : ℕ) → page_of k s < all_pages k → is_worn_in k (sub_in k (subs_in (cell_part k x past (page_of k s))) s) ≡ is_worn k past s
   worn_here s exists = ap (λ (q : Part). is_worn_in k (sub_in k (subs_in q) s)) (page_here k x past (page_of k s) exists) ∙ ap (λ (u : SubPart). is_worn_in k u) (part_of_sub k x past s)
 

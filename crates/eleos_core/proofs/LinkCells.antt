@@ -20,7 +20,7 @@ use Rattle.eleos_core.specs.Accesses.{link_stamp, may_link, page_for, refusal_on
 use Rattle.eleos_core.specs.Applying.{Makes, parts_in}
 use Rattle.eleos_core.specs.Cells.{Cells, frame_of_page, links_in}
 use Rattle.eleos_core.specs.Parts.{after_at, foot, frame_in, page_after, subs_in}
-use Rattle.eleos_core.specs.Places.{all_pages, page_of, sub_of}
+use Rattle.eleos_base.specs.Places.{all_pages, page_of, sub_of}
 use Rattle.eleos_core.specs.Seals.{Seals}
 use Rattle.eleos_core.proofs.AccessParts.{legal_by, link-kept, refused_by}
 use Rattle.eleos_core.proofs.Sets.{set_links}
@@ -139,6 +139,7 @@ module _ (s : Inside) (m : Cells) (view : view_of s ≡ m) (core : Holds s) (x :
       (link_touched at Done)
       (λ by q h less. changed by q h less ∙ ap (λ z. if by == who && q == z then links_in old by q + 1 else links_in old by q) page))
 
+  -- in memory it makes the caller's count of links on that page one more
   pub link-made : (at : Addr) (spot : Spot) (i v : ℕ) → IsThere s who at 1 spot → refusal_on m who at 1 ≡ None → may_link m who at ≡ true → i ≡ (who - 1) * vec_len s.pages + spot.page
       → v ≡ slice_index_or s.links.items i v → Makes x (link_stamp who at Done) m (view_of (record s { links = with_item s.links i (v + 1) }))
   link-made at spot i v t accepted may is value =

@@ -9,10 +9,10 @@ use Rattle.eleos_core.specs.declared.event.Entry.{Entry}
 use Rattle.eleos_core.specs.declared.event.Event.{Event}
 use Rattle.eleos_core.specs.declared.event.Event.TheVariants.{Link, Unlink, Fill, Evict}
 use Rattle.eleos_core.specs.Seals.{Seals, seals_by}
-use Rattle.eleos_core.specs.Places.{page_of, sub_of}
+use Rattle.eleos_base.specs.Places.{page_of, sub_of}
 use Rattle.eleos_core.specs.State.{History, entry, frame, is_present, links}
 use Rattle.eleos_core.specs.Legal.{CoreRun, CoreStep, IsPlainly, access_refusal}
-use Rattle.eleos_core.specs.Laws.{IsRun, LinkedStay}
+use Rattle.eleos_core.specs.Laws.{IsLegalRun, LinkedStay}
 use Rattle.eleos_core.proofs.Tests.{by_test, first_of, second_of}
 use Rattle.eleos_core.proofs.Replies.{IsRefusal, access_refuses}
 
@@ -44,5 +44,5 @@ module _ (k : Plan) (x : Seals) where
   linked_stay (e ∷ past) run by p l = linked_stay_step past e.who e.event e.blocks e.reply run.0 (linked_stay past run.1) by p l
 
 -- a page that somebody links is in a frame
-pub linked_pages : (k : Plan) (key : List ℕ) (h : History) → IsRun k key h → LinkedStay k h
+pub linked_pages : (k : Plan) (key : List ℕ) (h : History) → IsLegalRun k key h → LinkedStay k h
 linked_pages k key h run = linked_stay k (seals_by key) h run.legal

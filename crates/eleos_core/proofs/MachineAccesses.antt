@@ -19,7 +19,7 @@ use Rattle.eleos_core.specs.Accesses.{AreBlocks, ReadsPage, WritesPage, call_pla
 use Rattle.eleos_core.specs.Applying.{Makes, page_puts, parts_in, put_of, puts_in}
 use Rattle.eleos_core.specs.Cells.{Cells, part_of_page, part_with}
 use Rattle.eleos_core.specs.Parts.{CallOn, Part, Stamp, access_foot, after_at, foot, frame_in, page_after, sub_in, subs_in}
-use Rattle.eleos_core.specs.Places.{all_pages, first_sub, is_sub_of, page_of, sub_of}
+use Rattle.eleos_base.specs.Places.{all_pages, first_sub, is_sub_of, page_of, sub_of}
 use Rattle.eleos_core.specs.Seals.{Seals}
 use Rattle.eleos_core.specs.State.{writes}
 use Rattle.eleos_core.proofs.AccessParts.{no_blocks, puts_from-none, read-kept, refused_by, write-kept}
@@ -140,6 +140,7 @@ module _ (s : Inside) (m : Cells) (view : view_of s ≡ m) (core : Holds s) (x :
   pub accepted-found : (n : ℕ) (spot : Spot) (page : Page) → IsFound s who at n spot page → refusal_on m who at n ≡ None → refusal_for k who at n (part_of_page page) ≡ None
   accepted-found n spot page f accepted = subst (λ q. refusal_for k who at n q ≡ None) f.part (refusal_there s m view who at n None accepted)
 
+  -- and the blocks given for a read are those that it opens on that page
   pub read_blocks-found : (n : ℕ) (blocks : List (List ℕ)) (spot : Spot) (page : Page) → IsFound s who at n spot page → refusal_on m who at n ≡ None
       → AreBlocks (call_places m who (Read at n)) blocks → AreBlocks (opened_places k at (part_of_page page)) blocks
   read_blocks-found n blocks spot page f accepted are =
@@ -147,6 +148,7 @@ module _ (s : Inside) (m : Cells) (view : view_of s ≡ m) (core : Holds s) (x :
       (subst (λ o. AreBlocks (if is_some o then [] else opened_places k at old_page) blocks) (refusal_there s m view who at n None accepted)
       (subst (λ (c : Cells). AreBlocks (call_places c who (Read at n)) blocks) (sym view) are))
 
+  -- those given for a write are the ones that it opens, none where the sub-page is worn
   pub write_blocks-found : (new : List ℕ) (blocks : List (List ℕ)) (spot : Spot) (page : Page) → IsFound s who at (length new) spot page → refusal_on m who at (length new) ≡ None
       → AreBlocks (call_places m who (Write at new)) blocks → AreBlocks (rewritten_places k at (part_of_page page)) blocks
   write_blocks-found new blocks spot page f accepted are =
@@ -160,6 +162,7 @@ module _ (s : Inside) (m : Cells) (view : view_of s ≡ m) (core : Holds s) (x :
   read_place-found n spot page u f item accepted = subst (λ (c : Cells). (if is_some page.present then [] else block_places spot.place (part_with u [])) ≡ call_places c who (Read at n)) view
       (sym (ap (λ o. if is_some o then [] else opened_places k at old_page) (refusal_there s m view who at n None accepted) ∙ places-found s who at n spot page f u item))
 
+  -- of a write: none where the sub-page is worn or its page is in a frame
   pub write_place-found : (new : List ℕ) (spot : Spot) (page : Page) (u : SubPage) → IsFound s who at (length new) spot page → u ≡ slice_index_or page.subs.items spot.index u → refusal_on m who at (length new) ≡ None
       → (if not u.is_dirty && u.version == k.wear then [] else if is_some page.present then [] else block_places spot.place (part_with u [])) ≡ call_places m who (Write at new)
   write_place-found new spot page u f item accepted =

@@ -23,7 +23,7 @@ use Rattle.eleos_core.specs.Applying.{Makes, parts_in, stamp_of}
 use Rattle.eleos_core.specs.Cells.{Cells, IsCore, cells_of, part_of_frame, part_of_page, sub_size, subs_per_page}
 use Rattle.eleos_core.specs.Order.{AreInOrder}
 use Rattle.eleos_core.specs.Parts.{MayStep, Part, alloc_cell, len_at, live_in, no_part, page_cell, pages_of_run}
-use Rattle.eleos_core.specs.Places.{all_frames, all_pages, first_sub, subs}
+use Rattle.eleos_base.specs.Places.{all_frames, all_pages, first_sub, subs}
 use Rattle.eleos_core.specs.Seals.{Seals}
 use Rattle.eleos_core.proofs.Allotting.{IsFramePart, accepted_makes, alloc_marks, free_marks, share_marks}
 use Rattle.eleos_core.proofs.FreeRuns.{by_test}
@@ -66,6 +66,7 @@ module _ (v : Inside) (core : IsCore v.plan v.live.items v.clocks.items v.pages.
   abbrev pub home : ℕ
   home = enclave_of k who
 
+  -- the live blocks of the caller's enclave
   abbrev pub blocks_home : List Live
   blocks_home = slice_index_or live home []
 
@@ -75,9 +76,11 @@ module _ (v : Inside) (core : IsCore v.plan v.live.items v.clocks.items v.pages.
   inside : home < length k.enclaves
   inside = is_home k who core.good caller
 
+  -- what holds of a machine's pages holds of these
   pub pages_ok : ArePages pages
   pages_ok = record { wear = k.wear; frames = all_frames k; each = core.each_page }
 
+  -- and no more than 4,096
   pub pages_few : length pages ≤ 4096
   pages_few = let most = few_pages k core.good in let all = core.pages_are in omega arith
 
@@ -88,6 +91,7 @@ module _ (v : Inside) (core : IsCore v.plan v.live.items v.clocks.items v.pages.
   pub run_within : (start len : ℕ) → start + len ≤ subs k home → first_sub k home + start + len ≤ subs_per_page * length pages
   run_within start len within = let most = home_within k home inside in let all = core.pages_are in omega arith
 
+  -- the same of an enclave and a first sub-page as they were read
   pub run_fits : (first start len e : ℕ) → e ≡ home → first ≡ first_sub k e → start + len ≤ subs k home → first + start + len ≤ subs_per_page * length pages
   run_fits first start len e here is within =
       let at : first ≡ first_sub k home = is ∙ ap (first_sub k) here in
@@ -132,6 +136,7 @@ module _ (v : Inside) (core : IsCore v.plan v.live.items v.clocks.items v.pages.
   pub refilled : (old new : List Page) → old ≡ pages → length new ≡ length old → (with_items v.pages new).items ≡ new
   refilled old new is same = refill_is v.pages new new refl (same ∙ ap length is)
 
+  -- the invariant holds with as many pages that keep what held of the old ones, and with blocks in order
   pub core_after : (e : ℕ) (blocks : List Live) (old new : List Page) → e ≡ home → AreInOrder 0 (subs k home) blocks → old ≡ pages → length new ≡ length old → KeepsPages old new
       → IsCore k (slice_set live e blocks) v.clocks.items (with_items v.pages new).items frames v.links.items
   core_after e blocks old new here order is same keeps =
@@ -139,6 +144,7 @@ module _ (v : Inside) (core : IsCore v.plan v.live.items v.clocks.items v.pages.
       (subst (λ items. IsCore k (slice_set live home blocks) v.clocks.items items frames v.links.items) (sym (refilled old new is same))
       (core_with blocks new order (same ∙ ap length is) (subst (λ was. KeepsPages was new) is keeps)))
 
+  -- and the pages have the parts of the old ones with the run marked
   pub parts_after : (mark mark' : Mark) (first start len len' e : ℕ) (old new : List Page) → e ≡ home → old ≡ pages → length new ≡ length old → first ≡ first_sub k e → mark ≡ mark' → len ≡ len'
       → map part_of_page new ≡ run_marked mark (first + start) len (map part_of_page old)
       → map part_of_page (with_items v.pages new).items ≡ run_marked mark' (first_sub k home + start) len' (map part_of_page pages)
@@ -161,12 +167,15 @@ module _ (v : Inside) (core : IsCore v.plan v.live.items v.clocks.items v.pages.
       abbrev block_at_start : ℕ → Live
       block_at_start s = record { start = s; len = subs_for sub_size n; owner = who; is_shared = false }
 
+      -- the free run that was found ends within the enclave
       pub alloc_within : start + subs_for sub_size n ≤ subs k home
       alloc_within = is_free_run-le blocks_home (subs k home) (subs_for sub_size n) start (lowest_run-is_free blocks_home (subs k home) (subs_for sub_size n) start found)
 
+      -- with the new block the live blocks are in order
       pub alloc_in_order : 1 ≤ subs_for sub_size n → AreInOrder 0 (subs k home) (with_block (record { start = start; len = subs_for sub_size n; owner = who; is_shared = false }) blocks_home)
       alloc_in_order some = in_order-with_block (block_at_start start) blocks_home 0 (subs k home) home_in_order (omega arith) some (lowest_run-is_free blocks_home (subs k home) (subs_for sub_size n) start found)
 
+      -- with them and its run made blank the cells are what the alloc makes of them
       pub alloc_makes : (blocks : List Live) (pages' : List Page) → blocks ≡ with_block (record { start = start; len = subs_for sub_size n; owner = who; is_shared = false }) blocks_home
           → map part_of_page pages' ≡ run_marked (Blank (Some (record { start = start; len = subs_for sub_size n; owner = who; is_shared = false }))) (first_sub k home + start) (subs_for sub_size n) (map part_of_page pages)
           → Allots cells who (Alloc n) (Got (record { enclave = home; at = start * sub_size })) (cells_with blocks pages')
@@ -198,14 +207,17 @@ module _ (v : Inside) (core : IsCore v.plan v.live.items v.clocks.items v.pages.
     pub own_is : (e : ℕ) (cell : List Live) (says : Option Live → Type 0) → e ≡ home → cell ≡ slice_index_or live e cell → says (find (starts_at sub_size e at) cell) → says (find (starts_at sub_size home at) blocks_home)
     own_is e cell says here cell_at holds = subst says (λ t. find (starts_at sub_size (here t) at) (cell_is e cell here cell_at t)) holds
 
+    -- without the block at the address the live blocks are in order
     pub freed_in_order : AreInOrder 0 (subs k home) (filter (λ b. not (starts_at sub_size home at b)) blocks_home)
     freed_in_order = in_order-filter (λ b. not (starts_at sub_size home at b)) blocks_home 0 (subs k home) home_in_order
 
+    -- and so they are with it shared
     pub shared_in_order : AreInOrder 0 (subs k home) (map (shared_at sub_size home at) blocks_home)
     shared_in_order = in_order-shared sub_size home at blocks_home 0 (subs k home) home_in_order
 
     -- one that is accepted
     module _ (block : Live) (found : find (starts_at sub_size home at) blocks_home ≡ Some block) where
+      -- the block ends within the enclave
       pub block_within : block.start + block.len ≤ subs k home
       block_within = found-le (starts_at sub_size home at) blocks_home block 0 (subs k home) home_in_order found
 
@@ -219,6 +231,7 @@ module _ (v : Inside) (core : IsCore v.plan v.live.items v.clocks.items v.pages.
         done_is : block_reply sub_size home blocks_home who at ≡ Done
         done_is = ap (λ o. unwrap_or o Done) (sym mine)
 
+        -- without the block and with its run made blank the cells are what the free makes of them
         pub free_makes : blocks ≡ filter (λ b. not (starts_at sub_size home at b)) blocks_home → map part_of_page pages' ≡ run_marked (Blank None) (first_sub k home + block.start) block.len (map part_of_page pages)
             → Allots cells who (Free at) Done (cells_with blocks pages')
         free_makes blocks_are parts x =
@@ -227,6 +240,7 @@ module _ (v : Inside) (core : IsCore v.plan v.live.items v.clocks.items v.pages.
             = parts ∙ (λ t. run_marked (Blank None) (first_sub k home + start_is t) (len_is t) (map part_of_page pages)) in
             subst (Makes x (stamp_of who (Op (Free at)) [] Done (block_len cells who (Free at))) cells) (λ t. record cells { live = slice_set live home blocks; pages = sym pages_are t }) made
 
+        -- with the block shared, there and in its run of sub-pages, they are what the share makes of them
         pub share_makes : blocks ≡ map (shared_at sub_size home at) blocks_home → map part_of_page pages' ≡ run_marked Shared (first_sub k home + block.start) block.len (map part_of_page pages)
             → Allots cells who (Share at) Done (cells_with blocks pages')
         share_makes blocks_are parts x =

@@ -7,7 +7,7 @@ use Rattle.eleos_base.specs.Ties.{Has}
 use Rattle.eleos_core.specs.Applying.{Makes, parts_in}
 use Rattle.eleos_core.specs.Cells.{Cells, links_in}
 use Rattle.eleos_core.specs.Parts.{access_foot, MayStep, Part, Stamp, after_at, foot, frame_in, page_after, page_cell, part_after, subs_in}
-use Rattle.eleos_core.specs.Places.{all_pages, page_of, sub_of}
+use Rattle.eleos_base.specs.Places.{all_pages, page_of, sub_of}
 use Rattle.eleos_core.specs.Seals.{Seals}
 use Rattle.eleos_core.specs.State.{links_by}
 use Rattle.eleos_core.proofs.Sets.{AreWhole, at_other, at_same, cell_of-page, set_page}

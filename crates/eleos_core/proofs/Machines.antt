@@ -16,7 +16,7 @@ use Rattle.eleos_core.specs.declared.machine.Core.TheInside.{Inside}
 use Rattle.eleos_core.specs.Accesses.{IsSpot, block_places, opened_places, page_for, refusal_on, sub_for}
 use Rattle.eleos_core.specs.Cells.{Cells, IsPage, IsCore, cells_of, frame_of_page, part_of_frame, part_of_page, part_with}
 use Rattle.eleos_core.specs.Parts.{SubPart, is_worn_in, no_part}
-use Rattle.eleos_core.specs.Places.{all_frames, all_pages, page_of, sub_of}
+use Rattle.eleos_base.specs.Places.{all_frames, all_pages, page_of, sub_of}
 use Rattle.eleos_core.proofs.AccessParts.{accepted_range, sub_for-is}
 use Rattle.eleos_core.proofs.PageParts.{bytes_in}
 use Rattle.eleos_core.proofs.Sets.{map_page, page_at}
@@ -27,6 +27,7 @@ use Rattle.eleos_core.proofs.MachineCells.{item_there}
 abbrev pub Holds : Inside → Type 0
 Holds s = IsCore s.plan s.live.items s.clocks.items s.pages.items s.frames.items s.links.items
 
+-- the cells that these fields are seen as
 abbrev pub view_of : Inside → Cells
 view_of s = cells_of s.plan s.live.items s.clocks.items s.pages.items s.frames.items s.links.items
 
@@ -51,9 +52,11 @@ pub record IsFound (s : Inside) (who : ℕ) (at : Addr) (n : ℕ) (spot : Spot) 
   pub inside : spot.index < length page.subs.items
 
 module _ (s : Inside) (m : Cells) (view : view_of s ≡ m) where
+  -- a caller of the cells' plan is one of the core's
   pub caller_there : (who : ℕ) → IsCaller m.plan who → IsCaller s.plan who
   caller_there who caller = subst (λ (c : Cells). IsCaller c.plan who) (sym view) caller
 
+  -- and an access is refused by the core as it is by the cells that it is seen as
   pub refusal_there : (who : ℕ) (at : Addr) (n : ℕ) (o : Option Reply) → refusal_on m who at n ≡ o → refusal_on (view_of s) who at n ≡ o
   refusal_there who at n o is = subst (λ (c : Cells). refusal_on c who at n ≡ o) (sym view) is
 
@@ -67,15 +70,18 @@ module _ (s : Inside) (m : Cells) (view : view_of s ≡ m) where
   }
 
 module _ (s : Inside) (who : ℕ) (at : Addr) (n : ℕ) (spot : Spot) (t : IsThere s who at n spot) where
+  -- the page of an access that is there is one of the machine's
   pub page_within : page_of s.plan (sub_of s.plan at) < all_pages s.plan
   page_within = page_inside s.plan who at n t.core.good t.caller (range_is s.plan who at n t.range)
 
   page_small : spot.page < length s.pages.items
   page_small = let inside = page_within in let is = t.is.page in let all = t.core.pages_are in omega arith
 
+  -- so its number is one of the pages in memory
   pub page_index : spot.page < vec_len s.pages
   page_index = let small = page_small in let long = s.pages.ok.0 in omega arith
 
+  -- and the page that was read at that number is the one that has the address
   pub found : (page : Page) → page ≡ slice_index_or s.pages.items spot.page page → IsFound s who at n spot page
   found page value =
       let p : ℕ = page_of s.plan (sub_of s.plan at) in
@@ -100,6 +106,7 @@ page_there s who at n core caller range =
     (item.0, (found s who at n spot t item.0 item.1).part)
 
 module _ (s : Inside) (who : ℕ) (at : Addr) (n : ℕ) (spot : Spot) (page : Page) (f : IsFound s who at n spot page) where
+  -- the place of its sub-page is one of the page's sub-pages
   pub sub_index : spot.index < vec_len page.subs
   sub_index = let inside = f.inside in let long = page.subs.ok.0 in omega arith
 

@@ -52,12 +52,14 @@ cleared i old new frame inside bytes = record {
   keeps = λ frames holds. (let same : new.frame ≡ old.frame = frame in let below : old.frame < frames = holds.0 in omega arith, ap length bytes ∙ (length-cleared old.bytes.items i inside ∙ holds.1));
 }
 
+-- of a page in no frame there are no bytes to clear
 pub cleared_absent : (i : ℕ) → IsCleared i None None
 cleared_absent i = record { frame = refl; parts = λ us u. map-set (λ (v : SubPage). part_with v []) us i u; keeps = λ frames holds. holds }
 
 -- one sub-page marked by its block and its bytes
 module _ (us : List SubPage) (i : ℕ) (u u' : SubPage) (inside : i < length us) (is : u ≡ slice_index_or us i u) where
   module _ (mark : Mark) (part : (present : Bool) (bytes : List ℕ) → part_with u' (marked_bytes mark present bytes) ≡ marked mark present (part_with u bytes)) where
+    -- with the sub-page made blank, and its bytes cleared where there is a frame, the page is as marked
     pub page_blank : (block : Option Live) (old new : Option Present) → mark ≡ Blank block → IsCleared i old new
         → page_part (frame_of_page new) (sub_parts (slice_set us i u') new) ≡ with_marked mark i (page_part (frame_of_page old) (sub_parts us old))
     page_blank block old new blank clear =
@@ -68,6 +70,7 @@ module _ (us : List SubPage) (i : ℕ) (u u' : SubPage) (inside : i < length us)
         ∙ (part (is_some f) (bytes_at i old) ∙ ap (marked mark (is_some f)) (sym (part_at_place us i u old blank_sub inside is)))) in
         ap (λ g. page_part g (sub_parts (slice_set us i u') new)) clear.frame ∙ (ap (page_part f) (clear.parts us u') ∙ ap (λ v. page_part f (slice_set parts i v)) made)
 
+    -- so it is with the block shared and the frame as it was
     pub page_shared : (present : Option Present) → mark ≡ Shared
         → page_part (frame_of_page present) (sub_parts (slice_set us i u') present) ≡ with_marked mark i (page_part (frame_of_page present) (sub_parts us present))
     page_shared present shared =
@@ -110,10 +113,12 @@ no_bytes : (us : List SubPage) → AllByRecursion (λ (u : SubPart). u.bytes ≡
 no_bytes [] = tt
 no_bytes (u ∷ us) = (refl, no_bytes us)
 
+-- a page in memory with its 4 sub-pages is such a part
 pub page_is_one : (us : List SubPage) (present : Option Present) → length us ≡ subs_per_page → IsPagePart (page_part (frame_of_page present) (sub_parts us present))
 page_is_one us None whole = (length-map us (λ (v : SubPage). part_with v []) ∙ whole, λ none. no_bytes us)
 page_is_one us (Some present) whole = (length-map_from (λ j v. part_with v (piece j present.bytes.items)) 0 us ∙ whole, λ none. absurd (let wrong : Some present.frame ≡ None = none in cc))
 
+-- and so is each of the pages of a machine
 pub parts_are : (wear frames : ℕ) (pages : List Page) (p : ℕ) (d : Part) → AllByRecursion (IsPage wear frames) pages → p < length pages → IsPagePart (slice_index_or (map part_of_page pages) p d)
 parts_are wear frames [] p d all inside = absurd (omega arith)
 parts_are wear frames (page ∷ pages) zero d all inside = page_is_one page.subs.items page.present all.0.whole
@@ -150,6 +155,7 @@ module _ (mark : Mark) (start n p i : ℕ) (at : subs_per_page * p + i ≡ start
       (λ j h. let inside : j < subs_per_page = (let whole = holds.0 in omega arith) in
       ap (λ b. if b then marked mark (is_some f) (slice_index_or us j blank_sub) else slice_index_or us j blank_sub) (in_run_more start n (o * subs_per_page + j) (λ is. differ (omega arith)))))
 
+  -- with the next sub-page of the run set in memory, the run that is marked is one longer
   pub run_more : (wear frames : ℕ) (old now : List Page) (page page' : Page) → AllByRecursion (IsPage wear frames) old → p < length old → map part_of_page now ≡ run_marked mark start n (map part_of_page old)
       → page ≡ slice_index_or now p page → part_of_page page' ≡ with_marked mark i (part_of_page page)
       → map part_of_page (slice_set now p page') ≡ run_marked mark start (n + 1) (map part_of_page old)
@@ -175,5 +181,6 @@ page_unmarked mark start p (frame_part owner f) = refl
 page_unmarked mark start p (page_part f us) = ap (page_part f)
     (map_from-keeps (λ s u. if is_in_run start 0 s then marked mark (is_some f) u else u) (p * subs_per_page) us (λ s u from. ap (λ b. if b then marked mark (is_some f) u else u) (in_no_run start s)))
 
+-- with an empty run marked all pages are as they were
 pub run_none : (mark : Mark) (start : ℕ) (qs : List Part) → qs ≡ run_marked mark start 0 qs
 run_none mark start qs = sym (map_from-keeps (page_marked mark start 0) 0 qs (λ p q from. page_unmarked mark start p q))

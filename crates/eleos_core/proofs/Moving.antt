@@ -11,7 +11,7 @@ use Rattle.eleos_core.specs.Cells.{Cells, IsCore, cells_of, holder_of_use, part_
 use Rattle.eleos_core.specs.Legal.{IsActor, IsOwner, OneIsPool}
 use Rattle.eleos_core.specs.Moves.{CanMoveIn, move_stamp}
 use Rattle.eleos_core.specs.Parts.{after_at, clock_cell, clock_part, frame_cell, frame_part, part_after, the_clock, the_frame}
-use Rattle.eleos_core.specs.Places.{Owner, all_frames}
+use Rattle.eleos_base.specs.Places.{Owner, all_frames}
 use Rattle.eleos_core.specs.Seals.{Seals}
 use Rattle.eleos_core.specs.State.{is_owner}
 use Rattle.eleos_core.proofs.Sets.{AreWhole, at_other, at_same, cell_of-clock, cell_of-frame, clock_at, clock_place, frame_not_clock, map_frame, pool_not_clock, set_clock, set_frame, core_whole, whole_clock}
@@ -116,6 +116,7 @@ module _ (k : Plan) (live : List (List Live)) (clocks : List (List ℕ)) (pages 
     frame_was : parts_in old_cells (frame_cell k f) ≡ part_of_frame frame
     frame_was = frame_part_is k live clocks pages frames links core f exists frame frame_is
 
+    -- with the frame's new owner and both lists the cells are what the move makes of them
     pub move_made : (x : Seals) (who : ℕ) → IsActor k who → CanMoveIn old_cells f from → Makes x (move_stamp who f from to) old_cells new_cells
     move_made x who actor legal = record {
       plan = refl;

@@ -14,7 +14,7 @@ use Rattle.eleos_core.specs.Cells.{Cells}
 use Rattle.eleos_core.specs.Legal.{CoreStep, IsPlainly, access_refusal, is_worn}
 use Rattle.eleos_core.specs.Needs.{AlwaysCovers, needed}
 use Rattle.eleos_core.specs.Parts.{Part, is_worn_in}
-use Rattle.eleos_core.specs.Places.{page_of, sub_of}
+use Rattle.eleos_base.specs.Places.{page_of, sub_of}
 use Rattle.eleos_core.specs.Seals.{Seals}
 use Rattle.eleos_core.specs.State.{History, access_places, address_of, entry, places}
 use Rattle.eleos_core.proofs.ApplyingEvents.{opened_shown, page_shown, refusal_shown}

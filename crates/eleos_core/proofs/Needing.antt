@@ -56,6 +56,7 @@ bytes_apart : (h : ℕ → List ℕ) (s i : ℕ) (us : List SubPage) → sealed_
 bytes_apart h s i [] = refl
 bytes_apart h s i (u ∷ us) = ap (λ r. if is_some u.tag then s ∷ r else r) (bytes_apart h (s + 1) (i + 1) us)
 
+-- a page's sealed sub-pages are the same whether its bytes lie in a frame or not
 pub sealed_bare : (s : ℕ) (us : List SubPage) (present : Option Present) → sealed_from s (sub_parts us present) ≡ sealed_from s (bare us)
 sealed_bare s us None = refl
 sealed_bare s us (Some present) = bytes_apart (λ i. piece i present.bytes.items) s 0 us

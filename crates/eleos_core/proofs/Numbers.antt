@@ -13,8 +13,8 @@ use Rattle.eleos_base.specs.declared.memory.Reply.TheVariants.{BadRange}
 use Rattle.eleos_base.specs.declared.plan.Plan.{Plan}
 use Rattle.eleos_base.specs.Plain.{is_in_run, is_in_range, subs_for}
 use Rattle.eleos_base.specs.Plans.{IsCaller, IsGood, enclave_of, sub_bytes}
-use Rattle.eleos_core.specs.Runs.{first_of_run, run_with}
-use Rattle.eleos_core.specs.Places.{all_pages, first_sub, home_of, is_sub_of, page_counts, page_of, per_page, sub_of, subs}
+use Rattle.eleos_base.specs.Runs.{first_of_run, run_with}
+use Rattle.eleos_base.specs.Places.{all_pages, first_sub, home_of, is_sub_of, page_counts, page_of, per_page, sub_of, subs}
 use Rattle.eleos_base.specs.Ties.{Has}
 use Rattle.eleos_core.specs.Parts.{home_of_sub, pages_of_run}
 use Rattle.eleos_core.proofs.Tests.{by_test}
@@ -127,6 +127,7 @@ module _ (k : Plan) where
   pub sub_is : (e : ℕ) (at : Addr) → at.enclave ≡ e → sub_of k at ≡ first_sub k e + at.at / sub_bytes k e
   sub_is e at home = ap (λ (q : ℕ). first_sub k q + at.at / sub_bytes k q) home
 
+  -- counted from the enclave's first, it is the address divided by the size of a sub-page
   pub place_is : (e : ℕ) (at : Addr) → at.enclave ≡ e → sub_of k at - first_sub k e ≡ at.at / sub_bytes k e
   place_is e at home = let is = sub_is e at home in omega (arith, is)
 
@@ -142,6 +143,7 @@ module _ (k : Plan) where
   pub page_low : (s : ℕ) → page_of k s * per_page k ≤ s
   page_low s = omega arith
 
+  -- and below the first sub-page of the next page
   pub page_high : (s : ℕ) → s < page_of k s * per_page k + per_page k
   page_high s = omega arith
 

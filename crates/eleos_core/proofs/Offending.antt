@@ -12,8 +12,9 @@ use Rattle.eleos_core.specs.declared.cells.sub_page.SubPage.{SubPage}
 use Rattle.eleos_core.specs.Cells.{frame_of_page, part_of_page, part_with, piece, sub_parts}
 use Rattle.eleos_core.specs.Fills.{sealed_places}
 use Rattle.eleos_core.specs.Parts.{sealed_from}
-use Rattle.eleos_core.specs.Places.{Owner}
+use Rattle.eleos_base.specs.Places.{Owner}
 
+-- what is not denied holds
 pub not_false : (b : Bool) → not b ≡ false → b ≡ true
 not_false true is = refl
 not_false false is = cc
@@ -29,6 +30,7 @@ owner_itself : (a : Owner) → option_eq nat_eq a a ≡ true
 owner_itself None = refl
 owner_itself (Some e) = eq-eqb e e refl
 
+-- two owners that the test tells apart are not one
 pub owner_other : (a b : Owner) → option_eq nat_eq a b ≡ false → a ≢ b
 owner_other a b is same = let yes : option_eq nat_eq a b ≡ true = subst (λ o. option_eq nat_eq a o ≡ true) same (owner_itself a) in cc
 
@@ -44,27 +46,3 @@ link_here links caller pages page callers n read read_is some same caller_exists
 pub not_present : (o : Option Present) → is_some o ≡ false → frame_of_page o ≡ None
 not_present None is = refl
 not_present (Some present) is = cc
-
--- as many places as sealed sub-pages
-abbrev lies_sealed : SubPage → Bool
-lies_sealed u = is_some u.tag
-
-length_if : (b : Bool) (s : ℕ) (ps : List ℕ) (n : ℕ) → length ps ≡ n → length (if b then s ∷ ps else ps) ≡ cond b 1 0 + n
-length_if true s ps n is = omega arith
-length_if false s ps n is = omega arith
-
-count_absent : (s : ℕ) (us : List SubPage) → length (sealed_from s (sub_parts us None)) ≡ count_by lies_sealed us
-count_absent s [] = refl
-count_absent s (u ∷ us) = length_if (lies_sealed u) s (sealed_from (s + 1) (sub_parts us None)) (count_by lies_sealed us) (count_absent (s + 1) us) ∙ sym (sum_by-cons (λ (v : SubPage). cond (lies_sealed v) 1 0) u us)
-
-count_present : (h : ℕ → List ℕ) (s i : ℕ) (us : List SubPage) → length (sealed_from s (map_from (λ j u. part_with u (h j)) i us)) ≡ count_by lies_sealed us
-count_present h s i [] = refl
-count_present h s i (u ∷ us) = length_if (lies_sealed u) s (sealed_from (s + 1) (map_from (λ j v. part_with v (h j)) (i + 1) us)) (count_by lies_sealed us) (count_present h (s + 1) (i + 1) us)
-    ∙ sym (sum_by-cons (λ (v : SubPage). cond (lies_sealed v) 1 0) u us)
-
-pub count_places : (p : ℕ) (page : Page) → length (sealed_places p (part_of_page page)) ≡ count_by (λ (u : SubPage). is_some u.tag) page.subs.items
-count_places p page = by_present page.present
-  where
-    by_present : (o : Option Present) → length (sealed_from (p * 4) (sub_parts page.subs.items o)) ≡ count_by lies_sealed page.subs.items
-    by_present None = count_absent (p * 4) page.subs.items
-    by_present (Some present) = count_present (λ i. piece i present.bytes.items) (p * 4) 0 page.subs.items

@@ -16,7 +16,7 @@ use Rattle.eleos_core.specs.declared.event.Wanted.{Wanted}
 use Rattle.eleos_core.specs.declared.event.Wanted.TheVariants.{Link as ALink, Op as ACall}
 use Rattle.eleos_core.specs.Legal.{IsWanted, NeedsFrame, access_refusal, failed_last, judged, passes, verdict, wanted_refusal}
 use Rattle.eleos_core.specs.Parts.{IsWantedIn, Part, SubPart, alloc_cell, block_at, block_in, found_in, frame_cell, frame_in, holder_in, live_in, owner_in, page_cell, page_part, part_at, part_of, passes_in, places_in, refusal_in, sealed_from, sub_in, sub_part, verdict_in, wanted_refusal_in}
-use Rattle.eleos_core.specs.Places.{all_frames, all_pages, page_of, per_page, sub_of, subs, subs_of}
+use Rattle.eleos_base.specs.Places.{all_frames, all_pages, page_of, per_page, sub_of, subs, subs_of}
 use Rattle.eleos_core.specs.Seals.{Seals}
 use Rattle.eleos_core.specs.State.{History, address_of, bytes, found, frame, holder, is_present, is_sealed, last, live, opened, owner, places, version}
 use Rattle.eleos_core.proofs.CellNumbers.{alloc_is, frame_is, page_is, part_of_sub, parts_of, sealed_are}
@@ -31,9 +31,11 @@ Same A B = (A → B) × (B → A)
 pub same_at : {A : Type 0} (P : A → Type 0) (a b : A) → a ≡ b → Same (P a) (P b)
 same_at P a b e = (subst P e, subst P (sym e))
 
+-- one after the other
 pub same_after : {A B C : Type 0} → Same A B → Same B C → Same A C
 same_after f g = (λ a. g.0 (f.0 a), λ c. f.1 (g.1 c))
 
+-- behind one refusal: what is said of the reply is the same, and where there is none each follows from the other
 pub same_option : {A B : Type 0} (P : Reply → Type 0) (o' o : Option Reply) → o' ≡ o → (o ≡ None → Same A B) → Same (MatchOption o' A P) (MatchOption o B P)
 same_option {A} {B} P o' o e h = subst (λ (z : Option Reply). Same (MatchOption z A P) (MatchOption o B P)) (sym e) (at o h) where
   at : (z : Option Reply) → (z ≡ None → Same A B) → Same (MatchOption z A P) (MatchOption z B P)
@@ -46,6 +48,7 @@ judged_same f g [] (c ∷ cs) h = refl
 judged_same f g (s ∷ ss) [] h = refl
 judged_same f g (s ∷ ss) (c ∷ cs) h = ap (λ v. if v then judged f ss cs else failed_last s cs) (h.0 c) ∙ ap (λ j. if g s c then j else failed_last s cs) (judged_same f g ss cs h.1)
 
+-- what holds of each number of a range that passes a test holds of all that are taken from it
 pub each_filter : (P : ℕ → Type 0) (t : ℕ → Bool) (a n : ℕ) → ((s : ℕ) → a ≤ s → s < a + n → t s ≡ true → P s) → AllByRecursion P (filter t (range_with_len a n))
 each_filter P t a zero h = tt
 each_filter P t a (suc n) h = by_test (t a) (λ v. t a ≡ v → AllByRecursion P (if v then a ∷ filter t (range_with_len (a + 1) n) else filter t (range_with_len (a + 1) n)))
@@ -57,21 +60,27 @@ module _ (k : Plan) (x : Seals) (past : History) where
   abbrev pub page : ℕ → Part
   page p = page_part (frame past p) (parts_of k x past p)
 
+  -- that of a page's cell
   abbrev pub cell_part : ℕ → Part
   cell_part p = part_at k x past (page_cell k p)
 
+  -- the cell of a page of the machine has what the history made of that page
   pub page_here : (p : ℕ) → p < all_pages k → cell_part p ≡ page p
   page_here p h = ap (part_of k x past) (page_is k p h)
 
+  -- the alloc cell of an enclave has its live blocks
   pub blocks_here : (e : ℕ) → e < length k.enclaves → live_in (part_at k x past (alloc_cell k e)) ≡ live k past e
   blocks_here e h = ap (λ c. live_in (part_of k x past c)) (alloc_is k e h)
 
+  -- the cell of a frame has its owner
   pub owner_here : (f : ℕ) → f < all_frames k → owner_in (part_at k x past (frame_cell k f)) ≡ owner k past f
   owner_here f h = ap (λ c. owner_in (part_of k x past c)) (frame_is k f h)
 
+  -- and the page in it
   pub holder_here : (f : ℕ) → f < all_frames k → holder_in (part_at k x past (frame_cell k f)) ≡ holder past f
   holder_here f h = ap (λ c. holder_in (part_of k x past c)) (frame_is k f h)
 
+  -- the cell of a page has the frame that it is in
   pub frame_here : (p : ℕ) → p < all_pages k → frame_in (cell_part p) ≡ frame past p
   frame_here p h = ap (λ (q : Part). frame_in q) (page_here p h)
 
@@ -92,9 +101,11 @@ module _ (k : Plan) (x : Seals) (past : History) where
   access_places_same : (s : ℕ) → (if is_present k past s then [] else if (sub_in k (parts_of k x past (page_of k s)) s).is_sealed then s ∷ [] else []) ≡ (if is_present k past s then [] else filter (is_sealed k past) (s ∷ []))
   access_places_same s = ap (λ (u : SubPart). if is_present k past s then [] else if u.is_sealed then s ∷ [] else []) (part_of_sub k x past s)
 
+  -- by the part and after the history an access finds the same text
   pub found_same : (e : Entry) (s : ℕ) → found_in k x e (places k e.event past) (is_present k past s) s (sub_part k x past s) ≡ found k x e past s
   found_same e s = by_test (is_present k past s) (λ v. (if v then if v then bytes k x past s else [] else opened k x e past s) ≡ (if v then bytes k x past s else opened k x e past s)) (λ _. refl) (λ _. refl)
 
+  -- so the blocks of an access are judged alike by the part of its page and after the history
   pub access_judged : (event : Event) (s : ℕ) (blocks : List (List ℕ)) → page_of k s < all_pages k
       → places_in k event (frame past (page_of k s)) (parts_of k x past (page_of k s)) ≡ (if is_present k past s then [] else if (sub_in k (parts_of k x past (page_of k s)) s).is_sealed then s ∷ [] else [])
       → places k event past ≡ (if is_present k past s then [] else filter (is_sealed k past) (s ∷ [])) → verdict_in k x event blocks (cell_part (page_of k s)) ≡ verdict k x past event blocks
@@ -125,6 +136,7 @@ module _ (k : Plan) (x : Seals) (past : History) where
       ∙ (ap (λ (e : ℕ). block_in k e (live k past e) s) (home_sub_is k home s inside)
       ∙ ap (λ (i : ℕ). find (has_sub i) (live k past home)) (place_is k home at (at_home_is k home at n range))))
 
+  -- an access is refused by the part of its page just as it is after the history
   pub refusal_same : (who : ℕ) (at : Addr) (n : ℕ) → refusal_in k who at n (block_at k (cell_part (page_of k (sub_of k at))) at) ≡ access_refusal k past who at n
   refusal_same who at n =
       let home : ℕ = enclave_of k who in
@@ -141,6 +153,7 @@ module _ (k : Plan) (x : Seals) (past : History) where
   wanted_refusal_same who (ACall (Free at)) needs = absurd needs
   wanted_refusal_same who (ACall (Share at)) needs = absurd needs
 
+  -- its page is one of the machine's where it needs a frame and is not refused
   pub wanted_exists : (who : ℕ) (wanted : Wanted) → NeedsFrame wanted → wanted_refusal k past who wanted ≡ None → page_of k (sub_of k (address_of wanted)) < all_pages k
   wanted_exists who (ALink at) needs e = exists_of who at 1 e
   wanted_exists who (ACall (Read at n)) needs e = exists_of who at n e
@@ -149,6 +162,7 @@ module _ (k : Plan) (x : Seals) (past : History) where
   wanted_exists who (ACall (Free at)) needs e = absurd needs
   wanted_exists who (ACall (Share at)) needs e = absurd needs
 
+  -- by its part the page is absent, and nothing refused, just where that is so after the history
   pub wanted_same : (who : ℕ) (wanted : Wanted) → NeedsFrame wanted → Same (IsWantedIn k who wanted (cell_part (page_of k (sub_of k (address_of wanted))))) (IsWanted k past who wanted)
   wanted_same who wanted needs =
       let p : ℕ = page_of k (sub_of k (address_of wanted)) in
@@ -158,9 +172,11 @@ module _ (k : Plan) (x : Seals) (past : History) where
         λ h. record { not_refused = here ∙ h.not_refused; absent = ap (λ (o : Option ℕ). is_some o) (frame_here p (wanted_exists who wanted needs h.not_refused)) ∙ h.absent },
       )
 
+  -- the blocks of its page are judged alike by the part and after the history
   pub spoiled_judged : (wanted : Wanted) (blocks : List (List ℕ)) → page_of k (sub_of k (address_of wanted)) < all_pages k
       → verdict_in k x (Spoiled wanted) blocks (cell_part (page_of k (sub_of k (address_of wanted)))) ≡ verdict k x past (Spoiled wanted) blocks
   spoiled_judged wanted blocks exists = ap (λ (q : Part). verdict_in k x (Spoiled wanted) blocks q) (page_here (page_of k (sub_of k (address_of wanted))) exists) ∙ page_judged (page_of k (sub_of k (address_of wanted))) blocks
 
+  -- and so are those of a fill
   pub fill_judged : (p f : ℕ) (blocks : List (List ℕ)) → p < all_pages k → verdict_in k x (Fill p f) blocks (cell_part p) ≡ verdict k x past (Fill p f) blocks
   fill_judged p f blocks exists = ap (λ (q : Part). verdict_in k x (Fill p f) blocks q) (page_here p exists) ∙ page_judged p blocks

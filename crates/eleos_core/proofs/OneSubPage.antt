@@ -40,6 +40,7 @@ module _ (x : Seals) (opens : Opens x) (z : List ℕ) (s : ℕ) (f : List ℕ �
   evict_text true false g u n b l t there clean = ap (λ (q : Bool). if q then b else of g n l) (there refl) ∙ clean refl (there refl)
   evict_text false d g u n b l t there clean = refl
 
+  -- after an evict a clean sub-page in a frame is as it was sealed
   pub evict_clean : (v d g : Bool) (u : Option ℕ) (n : ℕ) (b l t : List ℕ) → (d ≡ false → is_some u ≡ true → b ≡ of g n l)
       → (if false || v then false else d) ≡ false → is_some (if v then None else u) ≡ true
       → b ≡ of (if (v && d) || false then true else g) (if (v && d) || false then n + 1 else n) (if (v && d) || false then x.seal s (n + 1) (if v then b else t) else l)
@@ -53,6 +54,7 @@ module _ (x : Seals) (opens : Opens x) (z : List ℕ) (s : ℕ) (f : List ℕ �
   fill_text true false h u n b l o away same = ap (λ (q : Option ℕ). if is_some q then b else z) (away refl)
   fill_text false g h u n b l o away same = refl
 
+  -- and so it is after a fill, where the block that came is the one last sealed
   pub fill_clean : (v d g : Bool) (h : ℕ) (u : Option ℕ) (n : ℕ) (b l o : List ℕ) → (v ≡ true → g ≡ true → o ≡ l) → (d ≡ false → is_some u ≡ true → b ≡ of g n l)
       → d ≡ false → is_some (if v then Some h else u) ≡ true → (if v then of g n o else b) ≡ of g n l
   fill_clean true d true h u n b l o same clean e q = ap (x.unseal s n) (same refl refl)

@@ -13,7 +13,7 @@ use Rattle.eleos_core.specs.Cells.{IsCore, cells_of, part_in, part_of_frame, par
 use Rattle.eleos_core.specs.Opening.{AreFrames, ArePages, opening_clocks, opening_frame, opening_lives, opening_page}
 use Rattle.eleos_core.specs.Order.{AreInOrder}
 use Rattle.eleos_core.specs.Parts.{alloc_part, clock_part, no_part, part_of}
-use Rattle.eleos_core.specs.Places.{all_frames, all_pages, subs}
+use Rattle.eleos_base.specs.Places.{all_frames, all_pages, subs}
 use Rattle.eleos_core.specs.Seals.{Seals, seals_by}
 use Rattle.eleos_core.specs.State.{live, opening_frames}
 use Rattle.eleos_core.proofs.CellNumbers.{by_cell}

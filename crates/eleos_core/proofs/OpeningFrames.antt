@@ -7,8 +7,8 @@ use Rattle.eleos_core.specs.declared.cells.frame.Frame.{Frame}
 use Rattle.eleos_core.specs.Cells.{IsUse, part_of_frame}
 use Rattle.eleos_core.specs.Opening.{AreFrames, opening_frame}
 use Rattle.eleos_core.specs.Parts.{Part, frame_part}
-use Rattle.eleos_core.specs.Places.{Owner, frame_counts}
-use Rattle.eleos_core.specs.Runs.{first_of_run, run_with}
+use Rattle.eleos_base.specs.Places.{Owner, frame_counts}
+use Rattle.eleos_base.specs.Runs.{first_of_run, run_with}
 use Rattle.eleos_core.proofs.OpeningLists.{all_more, grown, map_runs}
 use Rattle.eleos_core.proofs.OpeningNumbers.{run_found}
 use Rattle.eleos_core.proofs.Ranges.{replicate-range}
@@ -19,6 +19,7 @@ pub frames_more : (old frames frames' : List Frame) (frame : Frame) (q : Part) (
     → map part_of_frame frames ≡ map part_of_frame old ++ replicate n q → map part_of_frame frames' ≡ map part_of_frame old ++ replicate (n + 1) q
 frames_more old frames frames' frame q n add is so_far = grown part_of_frame frames frames' frame (map part_of_frame old) (replicate n q) (replicate (n + 1) q) q add is (sym (replicate-append-replicate n 1 q)) so_far
 
+-- what holds of the frames so far and of one more holds of all
 pub free_more : (frames frames' : List Frame) (frame : Frame) → frames' ≡ frames ++ frame ∷ [] → ((pages : ℕ) → IsUse pages frame.used) → AreFrames frames → AreFrames frames'
 free_more frames frames' frame add free all = λ pages. subst (AllByRecursion (λ (f : Frame). IsUse pages f.used)) (sym add) (all_more (λ (f : Frame). IsUse pages f.used) frames frame (all pages) (free pages))
 

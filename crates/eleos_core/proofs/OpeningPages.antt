@@ -10,8 +10,8 @@ use Rattle.eleos_core.specs.declared.cells.page.Page.{Page}
 use Rattle.eleos_core.specs.Cells.{IsPage, part_of_page, part_with, subs_per_page}
 use Rattle.eleos_core.specs.Opening.{ArePages, absent_page, pages_among, sub_among, subs_among, opening_page, opening_sub}
 use Rattle.eleos_core.specs.Parts.{blank_sub, block_in, home_of_sub, page_part}
-use Rattle.eleos_core.specs.Places.{first_sub, page_counts, per_page, subs}
-use Rattle.eleos_core.specs.Runs.{first_of_run}
+use Rattle.eleos_base.specs.Places.{first_sub, page_counts, per_page, subs}
+use Rattle.eleos_base.specs.Runs.{first_of_run}
 use Rattle.eleos_core.specs.State.{live}
 use Rattle.eleos_core.proofs.Numbers.{home_sub_is}
 use Rattle.eleos_core.proofs.OpeningLists.{all_more, grown, map_runs, same_runs}
@@ -25,6 +25,7 @@ pages_more old pages page pages' blocks n add is so_far =
     grown part_of_page pages pages' page (map part_of_page old) (pages_among blocks n) (pages_among blocks (n + 1)) (absent_page (subs_among blocks n)) add is
     (map-range_with_len_more (λ p. absent_page (subs_among blocks p)) 0 n n (omega arith)) so_far
 
+-- what holds of the pages so far and of one more holds of all
 pub holds_more : (pages pages' : List Page) (page : Page) → pages' ≡ pages ++ page ∷ [] → ((wear frames : ℕ) → IsPage wear frames page) → ArePages pages → ArePages pages'
 holds_more pages pages' page add holds all = λ wear frames. subst (AllByRecursion (IsPage wear frames)) (sym add) (all_more (IsPage wear frames) pages page (all wear frames) (holds wear frames))
 

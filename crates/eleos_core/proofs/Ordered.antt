@@ -21,7 +21,7 @@ use Rattle.eleos_core.specs.declared.event.Event.{Event}
 use Rattle.eleos_core.specs.declared.event.Event.TheVariants.{Op}
 use Rattle.eleos_core.specs.Legal.{CoreRun, CoreStep}
 use Rattle.eleos_core.specs.Order.{AreInOrder}
-use Rattle.eleos_core.specs.Places.{subs}
+use Rattle.eleos_base.specs.Places.{subs}
 use Rattle.eleos_core.specs.Seals.{Seals}
 use Rattle.eleos_core.specs.State.{History, entry, live}
 use Rattle.eleos_core.proofs.InOrder.{in_order-filter, in_order-shared, in_order-with_block, lowest_run-is_free}
@@ -71,7 +71,6 @@ one_byte n good = grind (arith, nat_tests)
 -- the opening
 record IsReady (subs : ℕ) (m : EnclaveMemory) : Type 0 where
   pub room : length m.texts ≡ subs
-  -- each enclave's blocks are in order after every legal history
   pub in_order : AreInOrder 0 subs m.blocks
 
 ready_more : (size subs : ℕ) (m : EnclaveMemory) (block : BlockPlan) → 1 ≤ subs_for size block.bytes → IsReady subs m → IsReady subs (with_header_block size m block)
@@ -97,6 +96,12 @@ map_from_at f i [] e d d' h = absurd (omega arith)
 map_from_at f i (x ∷ xs) zero d d' h = ap (λ j. f j x) (omega arith)
 map_from_at f i (x ∷ xs) (suc e) d d' h = map_from_at f (i + 1) xs e d d' (omega arith) ∙ ap (λ j. f j (slice_index_or xs e d')) (omega arith)
 
+-- an enclave's live blocks before the first event
+pub opening_blocks : (k : Plan) (e : ℕ) → e < length k.enclaves → live k [] e ≡ (opening_of k e (slice_index_or k.enclaves e (record { pages = 0; frames = 0 }))).blocks
+opening_blocks k e h =
+    let none : EnclavePlan = record { pages = 0; frames = 0 } in
+    ap (λ (m : EnclaveMemory). m.blocks) (map_from_at (opening_of k) 0 k.enclaves e (record { blocks = []; texts = [] }) none h ∙ ap (λ j. opening_of k j (slice_index_or k.enclaves e none)) (omega arith))
+
 module _ (k : Plan) (full : HasNoEmptyBlock k) where
   opening_ready : (e : ℕ) (made : EnclavePlan) → IsReady (subs_in k e made.pages) (opening_of k e made)
   opening_ready e made = all_ready k e (subs_in k e made.pages) (filter (λ (block : BlockPlan). block.enclave == e) k.blocks) _ (all_kept (λ (block : BlockPlan). 1 ≤ block.bytes) (λ (block : BlockPlan). block.enclave == e) k.blocks full)
@@ -106,7 +111,7 @@ module _ (k : Plan) (full : HasNoEmptyBlock k) where
   opening_in_order e h =
       let none : EnclavePlan = record { pages = 0; frames = 0 } in
       let made : EnclavePlan = slice_index_or k.enclaves e none in
-      let here : live k [] e ≡ (opening_of k e made).blocks = ap (λ (m : EnclaveMemory). m.blocks) (map_from_at (opening_of k) 0 k.enclaves e (record { blocks = []; texts = [] }) none h ∙ ap (λ j. opening_of k j made) (omega arith)) in
+      let here : live k [] e ≡ (opening_of k e made).blocks = opening_blocks k e h in
       let room : subs k e ≡ subs_in k e made.pages = ap (subs_in k e) (get_or-map (λ (m : EnclavePlan). m.pages) k.enclaves e none 0 h) in
       subst (λ (n : ℕ). AreInOrder 0 n (live k [] e)) (sym room) (subst (AreInOrder 0 (subs_in k e made.pages)) (sym here) (opening_ready e made).in_order)
 
@@ -144,6 +149,7 @@ module _ (k : Plan) (x : Seals) where
       (λ _ is. order) refl
   order_step past who _ blocks reply step e order = order
 
+  -- after every legal history each enclave's live blocks are in order and within its sub-pages
   pub in_order : HasNoEmptyBlock k → (past : History) → CoreRun k x past → (e : ℕ) → e < length k.enclaves → AreInOrder 0 (subs k e) (live k past e)
   in_order full [] run e h = opening_in_order k full e h
   in_order full (x' ∷ past) run e h = order_step past x'.who x'.event x'.blocks x'.reply run.0 e (in_order full past run.1 e h)

@@ -4,8 +4,9 @@ use Rattle.std.specs.List.{AllByRecursion, IsDistinct}
 use Rattle.std.proofs.lemmas.Bool.{eq-eqb, eqb-true, cases_lt}
 use Rattle.std.proofs.Common.{⊎_elim}
 use Rattle.eleos_base.specs.declared.plan.Plan.{Plan}
-use Rattle.eleos_core.specs.Places.{Owner, all_frames}
-use Rattle.eleos_core.specs.Seals.{Seals}
+use Rattle.eleos_base.specs.Places.{Owner, all_frames}
+use Rattle.eleos_core.specs.Laws.{IsLegalRun, ListsAreOwned}
+use Rattle.eleos_core.specs.Seals.{Seals, seals_by}
 use Rattle.eleos_core.specs.State.{History, is_owner, owner, frames_of}
 use Rattle.eleos_core.specs.Legal.{CoreRun}
 use Rattle.eleos_core.proofs.Tests.{by_test}
@@ -60,3 +61,12 @@ module _ (k : Plan) (x : Seals) where
   pub frames_distinct : (h : History) → CoreRun k x h → (o : Owner) → IsDistinct nat_eq (frames_of k h o)
   frames_distinct h run o = distinct (frames_of k h o) (λ g. ⊎_elim (λ (lt : g < all_frames k). at_most (is_owner (owner k h g) o) (times g (frames_of k h o)) ((stands_once k x h run g).within lt o))
       (λ (le : all_frames k ≤ g). let none = (stands_once k x h run g).past_all le o in omega arith) (cases_lt g (all_frames k)))
+
+-- the owners' lists after every legal history
+pub lists_owned : (k : Plan) (key : List ℕ) (h : History) → IsLegalRun k key h → ListsAreOwned k h
+lists_owned k key h run = record {
+  frames = λ o g listed. (listed_is_owned k (seals_by key) h run.legal o g listed).0;
+  owned = λ o g listed. (listed_is_owned k (seals_by key) h run.legal o g listed).1;
+  listed = frame_listed k (seals_by key) h run.legal;
+  once = frames_distinct k (seals_by key) h run.legal;
+}

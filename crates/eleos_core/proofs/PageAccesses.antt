@@ -17,12 +17,12 @@ use Rattle.eleos_core.specs.declared.cells.page.Present.{Present}
 use Rattle.eleos_core.specs.declared.cells.sub_page.SubPage.{SubPage}
 use Rattle.eleos_core.specs.declared.event.Entry.{Entry}
 use Rattle.eleos_core.specs.declared.machine.Put.{Put}
-use Rattle.eleos_core.specs.Accesses.{AreBlocks, IsOpened, IsResealed, IsSpot, ReadsPage, WritesPage, block_places, judged_sub, opened_places, opened_sub, read_stamp, refusal_for, resealed, rewritten_places, sub_for, with_bytes, write_stamp}
+use Rattle.eleos_core.specs.Accesses.{AreBlocks, IsOpened, IsResealed, IsSpot, ReadsPage, WritesPage, judged_sub, opened_places, opened_sub, read_stamp, refusal_for, resealed, rewritten_places, sub_for, with_bytes, write_stamp}
 use Rattle.eleos_core.specs.Applying.{page_puts, put_of}
 use Rattle.eleos_core.specs.Cells.{IsPage, IsPresent, IsSubPage, frame_of_page, part_of_page, part_with, piece, sub_parts, subs_per_page}
 use Rattle.eleos_core.specs.Legal.{ByBlocks, failed, passed}
 use Rattle.eleos_core.specs.Parts.{CallOn, Part, SubPart, blank_sub, found_in, frame_in, is_worn_in, opened_in, page_part, seals_in, sub_after, subs_in}
-use Rattle.eleos_core.specs.Places.{page_of, per_page, sub_of}
+use Rattle.eleos_base.specs.Places.{page_of, per_page, sub_of}
 use Rattle.eleos_core.specs.Seals.{Seals}
 use Rattle.eleos_core.proofs.AccessParts.{access_verdict, accepted_range, accessed, by_failed, by_passed, if_false, if_true, legal_by, no_blocks, opened_in-absent, opened_places-absent, puts_from-none, puts_from-one, sub_for-is, verdict-absent, verdict-present, write-changed, write-kept, write_is}
 use Rattle.eleos_core.proofs.PageParts.{bytes_in, length-sub_parts, part_at_index, piece-changed, piece-kept}
@@ -32,17 +32,6 @@ use Rattle.eleos_core.proofs.Spots.{IsInRange, and_false, index_is, place_is, ra
 pub sub_for-absent : (k : Plan) (at : Addr) (page : Page) (spot : Spot) (u : SubPage) → IsSpot k at spot → spot.index < length page.subs.items → page.present ≡ None
     → u ≡ slice_index_or page.subs.items spot.index u → sub_for k at (part_of_page page) ≡ part_with u []
 sub_for-absent k at page spot u is inside none value = sub_for-is k at page spot u is inside ∙ (λ i. part_with (sym value i) (bytes_in (none i) spot.index))
-
--- the blocks of an access are those of its sub-page, where its page is absent
-pub blocks-absent : (k : Plan) (at : Addr) (page : Page) (spot : Spot) (u : SubPage) (blocks : List (List ℕ)) → IsSpot k at spot → spot.index < length page.subs.items → page.present ≡ None
-    → u ≡ slice_index_or page.subs.items spot.index u → AreBlocks (opened_places k at (part_of_page page)) blocks → AreBlocks (block_places spot.place (part_with u [])) blocks
-blocks-absent k at page spot u blocks is inside none value are =
-    let gone : is_some (frame_in (part_of_page page)) ≡ false = ap (λ p. is_some (frame_of_page p)) none in
-    subst (λ ps. AreBlocks ps blocks) (opened_places-absent k x_any at blocks (part_of_page page) gone
-    ∙ (λ i. block_places (sym is.place i) (sub_for-absent k at page spot u is inside none value i))) are
-  where
-    x_any : Seals
-    x_any = record { seal = λ s v text. []; unseal = λ s v block. []; tag = λ s v block. [] }
 
 module _ (k : Plan) (x : Seals) (who : ℕ) (at : Addr) (n : ℕ) (blocks : List (List ℕ)) (page : Page) (spot : Spot)
     (accepted : refusal_for k who at n (part_of_page page) ≡ None) (is : IsSpot k at spot) (inside : spot.index < length page.subs.items) where
@@ -133,6 +122,7 @@ module _ (k : Plan) (x : Seals) (who : ℕ) (at : Addr) (new : List ℕ) (blocks
       → AreBlocks (rewritten_places k at part) blocks → AreBlocks (opened_places k at part) blocks
   blocks-fresh u value fresh are = subst (λ v. AreBlocks (if v then [] else opened_places k at part) blocks) (worn_is u value ∙ fresh) are
 
+  -- a write to a worn sub-page is answered so, changes nothing and seals nothing
   pub writes-worn : (u : SubPage) (reply : Reply) (puts : List Put) (after : Part) → u ≡ slice_index_or page.subs.items spot.index u → (not u.is_dirty && u.version == k.wear) ≡ true
       → AreBlocks (rewritten_places k at part) blocks → reply ≡ Worn spot.place → puts ≡ [] → after ≡ part → WritesPage k x who at new blocks part reply puts after
   writes-worn u reply puts after value worn are reply_is none same =
@@ -150,6 +140,7 @@ module _ (k : Plan) (x : Seals) (who : ℕ) (at : Addr) (new : List ℕ) (blocks
   written_by u reply value fresh h = legal_by (refusal_for k who at (length new) part) _ _ accepted
       (if_false (is_worn_in k (sub_for k at part)) _ _ (worn_is u value ∙ fresh) h)
 
+  -- where the block does not pass it is answered Tampered, changes nothing and seals nothing
   pub writes-spoiled : (u : SubPage) (reply : Reply) (puts : List Put) (after : Part) → u ≡ slice_index_or page.subs.items spot.index u → (not u.is_dirty && u.version == k.wear) ≡ false
       → page.present ≡ None → judged_sub x spot.place (part_with u []) blocks ≡ failed spot.place
       → reply ≡ Tampered spot.place → puts ≡ [] → after ≡ part → WritesPage k x who at new blocks part reply puts after
@@ -167,6 +158,7 @@ module _ (k : Plan) (x : Seals) (who : ℕ) (at : Addr) (new : List ℕ) (blocks
   here_is : (reply : Reply) → is_accepted reply ≡ true → (is_accepted reply && (sub_of k at == sub_of k at)) ≡ true
   here_is reply taken = ap (λ a. a && (sub_of k at == sub_of k at)) taken ∙ eq-eqb (sub_of k at) (sub_of k at) refl
 
+  -- in a frame it puts its bytes there and makes the sub-page dirty, and nothing is sealed
   pub writes-present : (u u' : SubPage) (present : Present) (bytes' : List ℕ) (present' : Option Present) (subs' : List SubPage) (reply : Reply) (puts : List Put)
       → u ≡ slice_index_or page.subs.items spot.index u → (not u.is_dirty && u.version == k.wear) ≡ false
       → page.present ≡ Some present → AreBlocks (rewritten_places k at part) blocks → length present.bytes.items ≡ page_bytes → spot.index < subs_per_page
@@ -193,6 +185,7 @@ module _ (k : Plan) (x : Seals) (who : ℕ) (at : Addr) (new : List ℕ) (blocks
             (λ t w. seals_at reply (is_some (frame_in part)) t w ∙ (ap (λ b. (is_accepted reply && (t == s)) && not b) here ∙ and_false (is_accepted reply && (t == s)))));
       }
 
+  -- while the page is absent it seals the sub-page again, and the new block goes to the host
   pub writes-sealed : (u u' : SubPage) (subs' : List SubPage) (block : List ℕ) (reply : Reply) (puts : List Put)
       → u ≡ slice_index_or page.subs.items spot.index u → (not u.is_dirty && u.version == k.wear) ≡ false
       → page.present ≡ None → IsResealed x spot.place spot.from new blocks (part_with u []) block (part_with u' [])
@@ -254,3 +247,24 @@ IsPage-written wear frames page page' present present' i u old some value inside
     room : IsSubPage wear page.present u → (u.is_dirty ≡ true) ⊎ (u.version ≢ wear) → u.version < wear
     room h (inl dirty) = h.below dirty
     room h (inr differ) = let most = h.version in omega arith
+
+-- and after one beside it, which seals a sub-page
+pub IsPage-sealed : (x : Seals) (wear frames s : ℕ) (page page' : Page) (i : ℕ) (u u' : SubPage) (text : List ℕ) → IsPage wear frames page
+    → u ≡ slice_index_or page.subs.items i u → i < length page.subs.items → (not u.is_dirty && u.version == wear) ≡ false
+    → part_with u' [] ≡ resealed x s (part_with u []) text → page'.subs.items ≡ slice_set page.subs.items i u' → page'.present ≡ page.present → IsPage wear frames page'
+IsPage-sealed x wear frames s page page' i u u' text old value inside fresh sealed set same =
+    let sub : IsSubPage wear page.present u = subst (IsSubPage wear page.present) (sym value) (All-from_recursion (IsSubPage wear page.present) page.subs.items old.each i u inside) in
+    let clean : u'.is_dirty ≡ false = ap (λ (v : SubPart). v.is_dirty) sealed in
+    let next : u'.version ≡ u.version + 1 = ap (λ (v : SubPart). v.version) sealed in
+    let room : u.version < wear = by_dirt sub u.is_dirty refl fresh in record {
+      whole = ap length set ∙ (length-set page.subs.items i u' ∙ old.whole);
+      present = subst (IsPresent frames) (sym same) old.present;
+      each = subst (λ p. AllByRecursion (IsSubPage wear p) page'.subs.items) (sym same) (subst (AllByRecursion (IsSubPage wear page.present)) (sym set)
+          (recursion_from_All (IsSubPage wear page.present) _ (All-set (IsSubPage wear page.present) page.subs.items i u'
+          (record { version = omega arith; below = λ dirty. absurd (cc); dirty = λ dirty. absurd (cc) })
+          (All-from_recursion (IsSubPage wear page.present) page.subs.items old.each))));
+    }
+  where
+    by_dirt : IsSubPage wear page.present u → (b : Bool) → u.is_dirty ≡ b → (not b && u.version == wear) ≡ false → u.version < wear
+    by_dirt h true dirty is = h.below dirty
+    by_dirt h false clean is = let differ : u.version ≢ wear = eqb-false u.version wear is in let most = h.version in omega arith

@@ -35,10 +35,12 @@ bytes_in-absent (Some present) i = refl
 abbrev pub part_at_index : List SubPage → Option Present → ℕ → SubPage → SubPart
 part_at_index us present i d = part_with (slice_index_or us i d) (bytes_in present i)
 
+-- a page has as many of them as sub-pages
 pub length-sub_parts : (us : List SubPage) (present : Option Present) → length (sub_parts us present) ≡ length us
 length-sub_parts us None = length-map us (λ u. part_with u [])
 length-sub_parts us (Some present) = length-map_from (λ i u. part_with u (piece i present.bytes.items)) 0 us
 
+-- and in each place that of the sub-page there
 pub sub_parts_at : (us : List SubPage) (present : Option Present) (i : ℕ) (d : SubPage) → i < length us
     → slice_index_or (sub_parts us present) i blank_sub ≡ part_at_index us present i d
 sub_parts_at us None i d inside = get_or-map (λ u. part_with u []) us i d blank_sub inside

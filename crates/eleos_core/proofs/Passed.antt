@@ -13,9 +13,11 @@ use Rattle.eleos_core.proofs.Tests.{by_test}
 pub here : {A : Type 0} (c x : ℕ) (a b : A) → c ≡ x → (if c == x then a else b) ≡ a
 here c x a b e = ap (λ (t : Bool). if t then a else b) (eq-eqb c x e)
 
+-- it is the second branch where they are not one
 pub apart : {A : Type 0} (c x : ℕ) (a b : A) → c ≢ x → (if c == x then a else b) ≡ b
 apart c x a b ne = ap (λ (t : Bool). if t then a else b) (ne_eqb c x ne)
 
+-- blocks of which one did not pass did not all pass
 pub failed_not : (s : ℕ) (cs : List (List ℕ)) → failed_last s cs ≡ passed → ⊥
 failed_not s [] e = cc
 failed_not s (c ∷ cs) e = cc
@@ -32,6 +34,7 @@ module _ (k : Plan) (x : Seals) (past : History) where
       (λ ne. apart s p c (block_for ps cs s) ne ∙ block-true ps cs j' a.1 s (⊎_elim (λ (i : s ≡ p). absurd (ne i)) (λ (i : Has s ps). i) h)))
       (λ e j'. absurd (failed_not p cs j')) j
 
+-- what stands in a list and passes a test is among those taken from it
 pub has-filter : (p : ℕ → Bool) (xs : List ℕ) (s : ℕ) → Has s xs → p s ≡ true → Has s (filter p xs)
 has-filter p [] s h e = h
 has-filter p (x ∷ xs) s h e = by_test (p x) (λ v. Has s (if v then x ∷ filter p xs else filter p xs))

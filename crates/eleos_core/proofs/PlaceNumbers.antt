@@ -4,13 +4,14 @@ use Rattle.std.proofs.lemmas.List.Sums.{sum-map}
 use Rattle.eleos_base.specs.declared.plan.Plan.{Plan}
 use Rattle.eleos_base.specs.declared.plan.EnclavePlan.{EnclavePlan}
 use Rattle.eleos_base.specs.Plans.{IsGood}
-use Rattle.eleos_core.specs.Places.{all_frames, all_pages, page_of, per_page}
+use Rattle.eleos_base.specs.Places.{all_frames, all_pages, page_of, per_page}
 
 module _ (k : Plan) where
   -- no machine has more pages, nor more frames
   pub most_pages : IsGood k → all_pages k ≤ 4096
   most_pages good = let all = good.all_pages in let same = sum-map (λ (made : EnclavePlan). made.pages) k.enclaves in omega arith
 
+  -- no machine has more than 512 frames
   pub most_frames : IsGood k → all_frames k ≤ 512
   most_frames good = let all = good.frames in let same = sum-map (λ (made : EnclavePlan). made.frames) k.enclaves in omega arith
 

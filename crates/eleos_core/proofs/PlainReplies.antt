@@ -13,7 +13,7 @@ use Rattle.eleos_core.specs.declared.event.Entry.{Entry}
 use Rattle.eleos_core.specs.declared.event.Event.TheVariants.{Op}
 use Rattle.eleos_core.specs.declared.event.Wanted.TheVariants.{Op as ACall}
 use Rattle.eleos_core.specs.Legal.{Judged, passed, failed, unfit, ByBlocks, IsPlainly, NeedsFrame, CallStep, AreTrue, access_refusal, wanted_refusal, is_worn, verdict}
-use Rattle.eleos_core.specs.Places.{sub_of}
+use Rattle.eleos_base.specs.Places.{sub_of}
 use Rattle.eleos_core.specs.Seals.{Seals}
 use Rattle.eleos_core.specs.State.{History, entry, found, live, places}
 use Rattle.eleos_core.proofs.AsPlain.{as_plain, enclave_memory, length-texts, memory-is, texts-at}
@@ -107,6 +107,7 @@ module _ (k : Plan) (x : Seals) where
       → CallStep k x past (entry who (Op op) blocks reply) op → AreTrue k x past (places k (Op op) past) blocks → MayReply k (as_plain k x past) who op reply
   may-get past who op blocks reply within step a = may_reply past who op reply within (call_reply past who op blocks reply step a)
 
+  -- a reply by which an access fails for want of a frame or for a bad block is one that plain memory may give
   pub may-fail : (past : History) (who : ℕ) (op : Calls) (reply : Reply) → enclave_of k who < length k.enclaves → NeedsFrame (ACall op) → wanted_refusal k past who (ACall op) ≡ None
       → is_read_failure reply ≡ true → is_write_failure reply ≡ true → MayReply k (as_plain k x past) who op reply
   may-fail past who op reply within needs not_refused r w = may_reply past who op reply within (wanted_reply past who op reply needs not_refused r w)

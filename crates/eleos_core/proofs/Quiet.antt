@@ -16,7 +16,7 @@ use Rattle.eleos_core.specs.declared.event.Event.TheVariants.{Op, Fill, Evict, M
 use Rattle.eleos_core.specs.Legal.{CoreStep}
 use Rattle.eleos_core.specs.PartLaws.{IsLenOf}
 use Rattle.eleos_core.specs.Parts.{SubPart, alloc_cell, alloc_part, block_by, block_foot, block_in, clock_cell, clock_part, foot_of, frame_cell, frame_part, home_of_sub, is_in_block, is_zeroed, len_of, page_cell, page_part, pages_of_run, part_at, part_of, start_of, sub_part}
-use Rattle.eleos_core.specs.Places.{Owner, all_pages, blank_bytes, page_of, per_page, sub_of, subs}
+use Rattle.eleos_base.specs.Places.{Owner, all_pages, blank_bytes, page_of, per_page, sub_of, subs}
 use Rattle.eleos_core.specs.Seals.{Seals}
 use Rattle.eleos_core.specs.State.{History, bytes, covers, entry, evicts, fills, frame, frames_of, holder, is_dirty, is_owner, is_present, is_sealed, last, live, opened, owner, rewritten, sealing, version, writes}
 use Rattle.eleos_core.proofs.CellNumbers.{by_cell, map_same}

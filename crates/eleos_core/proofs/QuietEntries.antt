@@ -24,7 +24,7 @@ use Rattle.eleos_core.specs.Cells.{Cells, IsCore, cells_of, frame_of_page, sub_p
 use Rattle.eleos_core.specs.Fills.{AreFit, IsJudged, absent_page, sealed_places}
 use Rattle.eleos_core.specs.Legal.{ByBlocks, Judged, failed, passed, unfit}
 use Rattle.eleos_core.specs.Parts.{Part, frame_in, page_part, verdict_in}
-use Rattle.eleos_core.specs.Places.{all_pages, page_of, sub_of}
+use Rattle.eleos_base.specs.Places.{all_pages, page_of, sub_of}
 use Rattle.eleos_core.specs.Quiet.{AllPass, IsSpoiledAt, IsStarving, IsWaiting, spoiled_stamp, starved_stamp, wanted_page, wanted_part, wanted_places, wanted_verdict}
 use Rattle.eleos_core.specs.Seals.{Seals}
 use Rattle.eleos_core.specs.State.{address_of}
@@ -117,9 +117,11 @@ module _ (k : Plan) (live : List (List Live)) (clocks : List (List ℕ)) (pages 
     pub enclave_in : at.enclave < length k.enclaves
     enclave_in = subst (λ (z : Addr). z.enclave < length k.enclaves) (sym at_is) (enclave_there k (address_of wanted) inside_there)
 
+    -- its page is one of the pages in memory
     pub page_in : spot.page < length pages
     page_in = page_small wanted spot page spot_is inside_there absent_there value
 
+    -- blocks that came for its page came for those sub-pages
     pub fit_in : (given : List (List ℕ)) → AreFit (wanted_places m wanted) given → AreFit (sealed_places spot.page (absent_page us)) given
     fit_in given fit = subst (λ z. AreFit (sealed_places spot.page (absent_page z)) given) (sym us_are)
         (fit_there wanted spot page spot_is inside_there absent_there value given (subst (λ (z : Cells). AreFit (wanted_places z wanted) given) (sym view) fit))
@@ -127,14 +129,17 @@ module _ (k : Plan) (live : List (List Live)) (clocks : List (List ℕ)) (pages 
     judged_in : (x : Seals) (given : List (List ℕ)) (count : ℕ) (reply : Reply) → IsJudged k x spot.page (absent_page us) given count reply → IsJudged k x spot.page (absent_page page.subs.items) given count reply
     judged_in x given count reply judged = subst (λ z. IsJudged k x spot.page (absent_page z) given count reply) us_are judged
 
+    -- where they are judged Tampered its page is spoiled at that place
     pub spoiled_in : (x : Seals) (given : List (List ℕ)) (found : Spoiled) → IsJudged k x spot.page (absent_page us) given found.used (Tampered found.place) → IsSpoiledAt m x wanted given found
     spoiled_in x given found judged = subst (λ (z : Cells). IsSpoiledAt z x wanted given found) view
         (spoiled_at wanted spot page spot_is inside_there absent_there value x given found (judged_in x given found.used (Tampered found.place) judged))
 
+    -- and where they are judged Done all of them pass
     pub passed_in : (x : Seals) (given : List (List ℕ)) → IsJudged k x spot.page (absent_page us) given (length given) Done → AllPass m x wanted given
     passed_in x given judged = subst (λ (z : Cells). AllPass z x wanted given) view
         (all_passed wanted spot page spot_is inside_there absent_there value x given (judged_in x given (length given) Done judged))
 
+    -- the refusal by such a block is an entry that leaves the cells as they are
     pub makes_in : (x : Seals) (given : List (List ℕ)) (found : Spoiled) (who : ℕ) → IsCaller m.plan who → IsWaiting m who wanted → IsSpoiledAt m x wanted given found
         → Makes x (spoiled_stamp who wanted (take found.used given) (Tampered found.place)) m m
     makes_in x given found who caller waiting spoiled = subst (λ (z : Cells). Makes x (spoiled_stamp who wanted (take found.used given) (Tampered found.place)) z z) view

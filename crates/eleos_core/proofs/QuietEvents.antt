@@ -19,7 +19,7 @@ use Rattle.eleos_core.specs.Applying.{Makes, parts_in, stamp_of}
 use Rattle.eleos_core.specs.Cells.{Cells, IsCore, cells_of, frame_of_page, part_in, part_of_frame, part_of_page, part_with, sub_parts}
 use Rattle.eleos_core.specs.Legal.{IsActor, IsOwner}
 use Rattle.eleos_core.specs.Parts.{Cell, MayStep, Part, Stamp, SubPart, alloc_part, cell_of, clock_part, frame_part, list_in, no_cell, no_part, page_after, page_part, part_after, places_in, sub_after, the_alloc, the_clock, the_frame, the_page}
-use Rattle.eleos_core.specs.Places.{Owner, per_page}
+use Rattle.eleos_base.specs.Places.{Owner, per_page}
 use Rattle.eleos_core.specs.Quiet.{IsQuiet, IsSurveyed, frames_of_owner, survey_stamp}
 use Rattle.eleos_core.specs.Seals.{Seals}
 use Rattle.eleos_core.specs.State.{frames_by, holder_by, links_by, live_by, owner_by}
@@ -131,6 +131,7 @@ module _ (k : Plan) (live : List (List Live)) (clocks : List (List ℕ)) (pages 
       subst (Fits (the_frame f)) (sym (get_or-map part_of_frame frames f (some_item frames f small) no_part small)) tt)
       (λ h. tt)
 
+  -- a quiet event that may be made leaves the cells of a core as they are
   pub quiet_makes : (x : Seals) (who : ℕ) (event : Event) (blocks : List (List ℕ)) (reply : Reply) (len : ℕ) → IsQuiet event
       → MayStep k x (stamp_of who event blocks reply len) (parts_in cells) → Makes x (stamp_of who event blocks reply len) cells cells
   quiet_makes x who event blocks reply len quiet may = record {
@@ -155,8 +156,10 @@ module _ (k : Plan) (live : List (List Live)) (clocks : List (List ℕ)) (pages 
     surveyed : IsTheReply (SurveyReply (frames_of_owner cells (Some e)) (frames_of_owner cells None) goal sweep) found
     surveyed = subst (λ (z : List ℕ × List ℕ). IsTheReply (SurveyReply z.0 z.1 goal sweep) found) (λ i. (owned (Some e) own inside own_is i, owned None pool tt pool_is i)) only
 
+    -- the reply found by the two lists in memory is the one that the search may have
     pub survey_is : IsSurveyed cells e goal sweep found
     survey_is few = surveyed
 
+    -- and the search with that reply leaves the cells as they are
     pub survey_makes : (x : Seals) (who : ℕ) → IsActor k who → IfSome found (λ reply. Makes x (survey_stamp who e goal sweep reply) cells cells)
     survey_makes x who actor = IfSome_then found surveyed.allowed (λ reply allowed. quiet_makes x who (Survey e goal sweep) [] reply 0 tt (record { within = (actor, inside); on_parts = (allowed, refl) }))

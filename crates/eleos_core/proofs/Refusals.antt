@@ -10,7 +10,7 @@ use Rattle.eleos_base.specs.Plain as plain
 use Rattle.eleos_base.specs.Plain.{is_accepted, plain_after}
 use Rattle.eleos_base.specs.Plans.{enclave_of, sub_bytes}
 use Rattle.eleos_core.specs.declared.event.Event.TheVariants.{Op}
-use Rattle.eleos_core.specs.Places.{first_sub, is_sub_of, blank_bytes}
+use Rattle.eleos_base.specs.Places.{first_sub, is_sub_of, blank_bytes}
 use Rattle.eleos_core.specs.Seals.{Seals}
 use Rattle.eleos_core.specs.State.{History, covers, live, rewritten, writes}
 use Rattle.eleos_core.proofs.AsPlain.{as_plain, memory-after}

@@ -10,7 +10,7 @@ use Rattle.eleos_base.specs.Plain as plain
 use Rattle.eleos_base.specs.Plain.{is_accepted, use_refusal, has_sub, is_in_range}
 use Rattle.eleos_base.specs.Plans.{enclave_of, sub_bytes}
 use Rattle.eleos_core.specs.declared.event.Entry.{Entry}
-use Rattle.eleos_core.specs.Places.{subs}
+use Rattle.eleos_base.specs.Places.{subs}
 use Rattle.eleos_core.specs.State.{History, live}
 use Rattle.eleos_core.specs.Legal.{Judged, passed, failed, unfit, ByBlocks, IsPlainly, access_refusal}
 
@@ -27,6 +27,7 @@ use_refuses who (Some block) = by_owner (block.is_shared || block.owner == who)
     by_owner true = tt
     by_owner false = refl
 
+-- why a caller may not use a block is none of the accepted replies
 pub use_refusal-refuses : (who : ℕ) (block : Option Live) (reply : Reply) → use_refusal who block ≡ Some reply → is_accepted reply ≡ false
 use_refusal-refuses who block reply is = subst IsRefusal is (use_refuses who block)
 
@@ -37,9 +38,11 @@ range_refuses false o h = refl
 pub refuses : (size enclave : ℕ) (blocks : List Live) (subs who : ℕ) (at : Addr) (n : ℕ) → IsRefusal (plain.access_refusal size enclave blocks subs who at n)
 refuses size enclave blocks subs who at n = range_refuses (is_in_range size enclave subs at n) (use_refusal who (find (has_sub (at.at / size)) blocks)) (use_refuses who (find (has_sub (at.at / size)) blocks))
 
+-- why an access is refused is none of the accepted replies
 pub access_refuses : (k : Plan) (past : History) (who : ℕ) (at : Addr) (n : ℕ) → IsRefusal (access_refusal k past who at n)
 access_refuses k past who at n = refuses (sub_bytes k (enclave_of k who)) (enclave_of k who) (live k past (enclave_of k who)) (subs k (enclave_of k who)) who at n
 
+-- an accepted reply by the blocks is the good one, and all blocks passed
 pub by_blocks : (j : Judged) (good reply : Reply) → ByBlocks j good reply → is_accepted reply ≡ true → (j ≡ passed) × (reply ≡ good)
 by_blocks passed good reply e yes_is = (refl, e)
 by_blocks (failed s) good reply e yes_is = let h : is_accepted reply ≡ false = ap is_accepted e in cc
@@ -51,6 +54,7 @@ pub read_accepted : (o : Option Reply) (j : Judged) (good : Reply) (e : Entry) �
 read_accepted None j good e r step yes_is = let h = by_blocks j good e.reply step yes_is in (refl, h.0, h.1)
 read_accepted (Some q) j good e r step yes_is = let h : is_accepted e.reply ≡ false = ap is_accepted step.reply_is ∙ r in cc
 
+-- of a write, and its sub-page was not worn
 pub write_accepted : (o : Option Reply) (w : Bool) (j : Judged) (s : ℕ) (e : Entry) → IsRefusal o
     → MatchOption o (MatchBool w (IsPlainly e (Worn s)) (ByBlocks j Done e.reply)) (IsPlainly e)
     → is_accepted e.reply ≡ true → (o ≡ None) × (w ≡ false) × (j ≡ passed) × (e.reply ≡ Done)

@@ -5,8 +5,8 @@ use Rattle.std.proofs.lemmas.Bool.{ne_eqb, eqb-true, eqb-false, eq-eqb, ltb-true
 use Rattle.std.proofs.lemmas.List.{take_all}
 use Rattle.std.proofs.lemmas.List.FromFn.{fill_by_all}
 use Rattle.std.proofs.lemmas.List.Sums.{sum_by-cons, sum-map}
-use Rattle.eleos_core.specs.Runs.{first_of_run, run_with}
-use Rattle.eleos_core.specs.Places.{Owner}
+use Rattle.eleos_base.specs.Runs.{first_of_run, run_with}
+use Rattle.eleos_base.specs.Places.{Owner}
 use Rattle.eleos_core.specs.State.{is_owner}
 use Rattle.eleos_core.proofs.Tests.{by_test}
 use Rattle.eleos_core.proofs.Times.{times, one_if, times_in, times_out}
@@ -55,6 +55,7 @@ later_is_run : (o : Owner) → is_owner o None ≡ false → is_owner (option_ma
 later_is_run None none = none
 later_is_run (Some e) none = refl
 
+-- a number below the sum lies in some run
 pub run_is : (lengths : List ℕ) (i : ℕ) → i < sum lengths → is_owner (run_with lengths i) None ≡ false
 run_is [] i within = absurd (omega arith)
 run_is (n ∷ lengths) i within = let all = sum_by-cons (λ x. x) n lengths in by_test (nat_lt i n) (λ v. nat_lt i n ≡ v → is_owner (if v then Some 0 else option_map suc (run_with lengths (i - n))) None ≡ false)
@@ -70,6 +71,7 @@ later_below : (n : ℕ) (o : Owner) → IsBelow n o → IsBelow (suc n) (option_
 later_below n None below = tt
 later_below n (Some e) below = omega arith
 
+-- the run that has a number, if any has it, is one of these
 pub run_below : (lengths : List ℕ) (i : ℕ) → IsBelow (length lengths) (run_with lengths i)
 run_below [] i = tt
 run_below (n ∷ lengths) i = by_test (nat_lt i n) (λ v. IsBelow (suc (length lengths)) (if v then Some 0 else option_map suc (run_with lengths (i - n))))
@@ -80,5 +82,6 @@ run_below (n ∷ lengths) i = by_test (nat_lt i n) (λ v. IsBelow (suc (length l
 pub first_behind : (lengths : List ℕ) → first_of_run lengths (length lengths) ≡ sum lengths
 first_behind lengths = ap sum (take_all (length lengths) lengths (omega arith))
 
+-- and so it is counted run by run
 pub sum_of_runs : (lengths : List ℕ) → sum_by (λ e. slice_index lengths e) (range_with_len 0 (length lengths)) ≡ sum lengths
 sum_of_runs lengths = sym (sum-map (λ e. slice_index lengths e) (range_with_len 0 (length lengths))) ∙ sym (ap sum (fill_by_all (λ e. slice_index lengths e) lengths (length lengths) 0 refl (λ e lt. refl)))

@@ -25,9 +25,11 @@ same_tag (b ∷ bs) = ap₂ (λ v w. v && w) (eq-eqb b b refl) (same_tag bs)
 pub passing : (t : List ℕ) (other : Judged) (good : Reply) → ByBlocks (if pointwise nat_eq t t then passed else other) good good
 passing t other good = subst (λ b. ByBlocks (if b then passed else other) good good) (sym (same_tag t)) refl
 
+-- a read of one byte answers the first byte of the text, where its block is the one last sealed
 pub passing_text : (t : List ℕ) (other : Judged) (found text : List ℕ) → found ≡ text → ByBlocks (if pointwise nat_eq t t then passed else other) (Text (take 1 found)) (Text (take 1 text))
 passing_text t other found text opens = subst (λ b. ByBlocks (if b then passed else other) (Text (take 1 found)) (Text (take 1 text))) (sym (same_tag t)) (ap (λ f. Text (take 1 f)) (sym opens))
 
+-- and a block that does not pass is answered Tampered
 pub failing : (b : Bool) (s : ℕ) (good : Reply) → b ≡ false → ByBlocks (if b then passed else failed s) good (Tampered s)
 failing b s good no_is = subst (λ b. ByBlocks (if b then passed else failed s) good (Tampered s)) (sym no_is) refl
 
@@ -40,12 +42,15 @@ gone false f same = cc
 abbrev pub one_enclave : ℕ → ℕ → ℕ → Plan
 one_enclave pages frames wear = record { enclaves = record { pages = pages; frames = frames } ∷ []; spare = 0; callers = 0 ∷ []; wear = wear; blocks = [] }
 
+-- the smallest machine: one page, one frame, and a sub-page sealed at most 1,000 times
 abbrev pub small : Plan
 small = one_enclave 1 1 1000
 
+-- its one caller has the number 1
 pub caller : {pages frames wear : ℕ} → IsCaller (one_enclave pages frames wear) 1
 caller = record { from_one = omega arith; within = omega arith }
 
+-- the swapper is an actor of it
 pub swapper : {pages frames wear : ℕ} → IsActor (one_enclave pages frames wear) 2
 swapper = record { from_one = omega arith; within = omega arith }
 
@@ -53,6 +58,7 @@ swapper = record { from_one = omega arith; within = omega arith }
 pub plainly : {who : ℕ} {event : Event} {reply : Reply} → IsPlainly (entry who event [] reply) reply
 plainly = record { reply_is = refl; no_block = refl }
 
+-- an address in the one enclave
 abbrev pub at : ℕ → Addr
 at offset = record { enclave = 0; at = offset }
 

@@ -14,7 +14,7 @@ use Rattle.eleos_core.specs.declared.event.Event.TheVariants.{Op, Link, Unlink, 
 use Rattle.eleos_core.specs.Applying.{page_puts, puts_from, puts_in, puts_of, stamp_of}
 use Rattle.eleos_core.specs.Legal.{CoreStep, access_refusal, is_worn, verdict}
 use Rattle.eleos_core.specs.Parts.{Part, Stamp, SubPart, frame_in, opened_in, page_cell, part_at, places_in, seals_in, sealing_in, sub_part, subs_in}
-use Rattle.eleos_core.specs.Places.{all_pages, all_subs, first_sub, is_sub_of, page_of, per_page, sub_of}
+use Rattle.eleos_base.specs.Places.{all_pages, all_subs, first_sub, is_sub_of, page_of, per_page, sub_of}
 use Rattle.eleos_core.specs.Seals.{Seals}
 use Rattle.eleos_core.specs.State.{History, bytes, entry, evicts, frame, is_dirty, is_present, is_sealing, last, opened, rewritten, sealing, version, writes}
 use Rattle.eleos_core.proofs.CellNumbers.{parts_of}

@@ -10,7 +10,7 @@ use Rattle.eleos_core.specs.Applying.{parts_in}
 use Rattle.eleos_core.specs.Cells.{Cells, IsCore, cells_of, part_in, part_of_frame, part_of_page}
 use Rattle.eleos_core.specs.Legal.{IsOwner}
 use Rattle.eleos_core.specs.Parts.{Cell, Part, alloc_cell, alloc_part, cell_of, clock_cell, clock_part, frame_cell, later_cell, no_cell, no_part, page_cell, the_alloc, the_clock, the_frame, the_page}
-use Rattle.eleos_core.specs.Places.{Owner, all_frames, all_pages}
+use Rattle.eleos_base.specs.Places.{Owner, all_frames, all_pages}
 use Rattle.eleos_core.proofs.FreeRuns.{nat_ge_of, nat_lt_of}
 use Rattle.eleos_core.proofs.Tests.{by_test}
 
@@ -52,6 +52,7 @@ cell_of-page k p inside = by_number k (λ cell. cell ≡ the_page p) (page_cell 
     (λ f h is. absurd (omega arith))
     (λ h. absurd (omega arith))
 
+-- of a frame's
 pub cell_of-frame : (k : Plan) (f : ℕ) → f < all_frames k → cell_of k (frame_cell k f) ≡ the_frame f
 cell_of-frame k f inside = by_number k (λ cell. cell ≡ the_frame f) (frame_cell k f)
     (λ h. absurd (omega arith))
@@ -61,6 +62,7 @@ cell_of-frame k f inside = by_number k (λ cell. cell ≡ the_frame f) (frame_ce
     (λ g h is. ap the_frame (omega arith))
     (λ h. absurd (omega arith))
 
+-- of an owner's clock cell
 pub cell_of-clock : (k : Plan) (owner : Owner) → IsOwner k owner → cell_of k (clock_cell k owner) ≡ the_clock owner
 cell_of-clock k None inside = by_number k (λ cell. cell ≡ the_clock None) (clock_cell k None)
     (λ h. absurd (omega arith))
@@ -77,6 +79,7 @@ cell_of-clock k (Some enclave) inside = by_number k (λ cell. cell ≡ the_clock
     (λ g h is. absurd (omega arith))
     (λ h. absurd (omega arith))
 
+-- of an enclave's alloc cell
 pub cell_of-alloc : (k : Plan) (e : ℕ) → e < length k.enclaves → cell_of k (alloc_cell k e) ≡ the_alloc e
 cell_of-alloc k enclave inside = by_number k (λ cell. cell ≡ the_alloc enclave) (alloc_cell k enclave)
     (λ h. refl)
@@ -99,9 +102,11 @@ pub page_not_clock : (k : Plan) (p : ℕ) (owner : Owner) → IsOwner k owner �
 page_not_clock k p None inside same = omega arith
 page_not_clock k p (Some e) inside same = omega arith
 
+-- a page's and an alloc cell's
 pub page_not_alloc : (k : Plan) (p e : ℕ) → e < length k.enclaves → page_cell k p ≢ alloc_cell k e
 page_not_alloc k p e inside same = omega arith
 
+-- a frame's and a clock cell's
 pub frame_not_clock : (k : Plan) (f : ℕ) (owner : Owner) → IsOwner k owner → frame_cell k f ≢ clock_cell k owner
 frame_not_clock k f None inside same = omega arith
 frame_not_clock k f (Some e) inside same = omega arith
@@ -120,6 +125,7 @@ pages_differ k p q differ same = differ (omega arith)
 pub frames_differ : (k : Plan) (f g : ℕ) → f ≢ g → frame_cell k f ≢ frame_cell k g
 frames_differ k f g differ same = differ (omega arith)
 
+-- the pool's clock cell and an enclave's
 pub pool_not_clock : (k : Plan) (e : ℕ) → e < length k.enclaves → clock_cell k None ≢ clock_cell k (Some e)
 pool_not_clock k e inside same = omega arith
 
@@ -147,6 +153,7 @@ whole_page m p q whole = record { live = whole.live; clocks = whole.clocks; page
 pub whole_frame : (m : Cells) (f : ℕ) (q : Part) → AreWhole m → AreWhole (record m { frames = slice_set m.frames f q })
 whole_frame m f q whole = record { live = whole.live; clocks = whole.clocks; pages = whole.pages; frames = length-set m.frames f q ∙ whole.frames }
 
+-- an owner's list of frames
 pub whole_clock : (m : Cells) (i : ℕ) (fs : List ℕ) → AreWhole m → AreWhole (record m { clocks = slice_set m.clocks i fs })
 whole_clock m i fs whole = record { live = whole.live; clocks = length-set m.clocks i fs ∙ whole.clocks; pages = whole.pages; frames = whole.frames }
 
@@ -157,13 +164,16 @@ whole_alloc m e blocks whole = record { live = length-set m.live e blocks ∙ wh
 pub page_at : (m : Cells) (p : ℕ) → p < all_pages m.plan → parts_in m (page_cell m.plan p) ≡ slice_index_or m.pages p no_part
 page_at m p inside = ap (part_in m) (cell_of-page m.plan p inside)
 
+-- of a frame
 pub frame_at : (m : Cells) (f : ℕ) → f < all_frames m.plan → parts_in m (frame_cell m.plan f) ≡ slice_index_or m.frames f no_part
 frame_at m f inside = ap (part_in m) (cell_of-frame m.plan f inside)
 
+-- of an owner's clock
 pub clock_at : (m : Cells) (owner : Owner) → IsOwner m.plan owner → parts_in m (clock_cell m.plan owner) ≡ clock_part (slice_index_or m.clocks (clock_place m.plan owner) [])
 clock_at m None inside = ap (part_in m) (cell_of-clock m.plan None inside)
 clock_at m (Some e) inside = ap (part_in m) (cell_of-clock m.plan (Some e) inside)
 
+-- of an enclave's alloc cell
 pub alloc_at : (m : Cells) (e : ℕ) → e < length m.plan.enclaves → parts_in m (alloc_cell m.plan e) ≡ alloc_part (slice_index_or m.live e [])
 alloc_at m e inside = ap (part_in m) (cell_of-alloc m.plan e inside)
 
@@ -171,6 +181,7 @@ alloc_at m e inside = ap (part_in m) (cell_of-alloc m.plan e inside)
 pub at_same : {A : Type 0} (a b : ℕ) (new was : A) → a ≡ b → cond (a == b) new was ≡ new
 at_same a b new was same = ap (λ v. cond v new was) (eq-eqb a b same)
 
+-- elsewhere it is what it was
 pub at_other : {A : Type 0} (a b : ℕ) (new was : A) → a ≢ b → cond (a == b) new was ≡ was
 at_other a b new was differ = ap (λ v. cond v new was) (ne_eqb a b differ)
 
@@ -255,6 +266,7 @@ part_linked m links (the_clock (Some e)) = refl
 part_linked m links (the_page p) = refl
 part_linked m links (the_frame f) = refl
 
+-- so with other links each cell has the part that it had
 pub set_links : (m : Cells) (links : List ℕ) (c : ℕ) → parts_in (record m { links = links }) c ≡ parts_in m c
 set_links m links c = part_linked m links (cell_of m.plan c)
 
@@ -262,5 +274,6 @@ set_links m links c = part_linked m links (cell_of m.plan c)
 pub map_page : (pages : List Page) (p : ℕ) (page : Page) → map part_of_page (slice_set pages p page) ≡ slice_set (map part_of_page pages) p (part_of_page page)
 map_page pages p page = map-set part_of_page pages p page
 
+-- of a frame: its part is set among those of all
 pub map_frame : (frames : List Frame) (f : ℕ) (frame : Frame) → map part_of_frame (slice_set frames f frame) ≡ slice_set (map part_of_frame frames) f (part_of_frame frame)
 map_frame frames f frame = map-set part_of_frame frames f frame

@@ -1,22 +1,22 @@
 -- The shares of all enclaves and the pool are the machine's frames: each frame stands once in its owner's list, and in no other.
-use Rattle.std.proofs.Common.{◌≡◌, ◌≢◌, inl, inr, ℕ, ◌+◌, ◌<◌, ◌≤◌, ◌==◌, List, [], ◌∷◌, ◌++◌, length, filter, Bool, true, false, not, ◌&&◌, Some, None, is_some, sum, sum_by, slice_index, nat_lt, if◌then◌else◌, refl, sym, ◌∙◌, ap, arith, length-append}
+use Rattle.std.proofs.Common.{◌≡◌, ◌≢◌, inl, inr, ℕ, ◌+◌, ◌<◌, ◌≤◌, ◌==◌, List, [], ◌∷◌, ◌++◌, length, filter, Bool, true, false, not, ◌&&◌, Some, None, sum, sum_by, slice_index, nat_lt, if◌then◌else◌, refl, sym, ◌∙◌, ap, arith, length-append}
 use Rattle.std.specs.List.{range_with_len}
 use Rattle.std.proofs.lemmas.Bool.{eq-eqb, ne_eqb, eqb-true, eqb-false}
 use Rattle.std.proofs.lemmas.Bool.Decides.{nat_tests}
 use Rattle.std.proofs.lemmas.List.{length-map}
 use Rattle.std.proofs.lemmas.List.FromFn.{length-range_with_len}
-use Rattle.std.proofs.lemmas.List.Sums.{count_by-le-length, sum_by-cons}
+use Rattle.std.proofs.lemmas.List.Sums.{sum_by-cons}
 use Rattle.eleos_base.specs.declared.memory.Reply.{Reply}
 use Rattle.eleos_base.specs.declared.plan.Plan.{Plan}
 use Rattle.eleos_base.specs.declared.plan.EnclavePlan.{EnclavePlan}
 use Rattle.eleos_core.specs.declared.event.Event.{Event}
 use Rattle.eleos_core.specs.declared.event.Event.TheVariants.{Op, Link, Unlink, Fill, Evict, Move, Starved, Spoiled, Survey}
-use Rattle.eleos_core.specs.Runs.{first_of_run, run_with}
-use Rattle.eleos_core.specs.Places.{Owner, frame_counts, all_frames}
-use Rattle.eleos_core.specs.Seals.{Seals, seals_by}
-use Rattle.eleos_core.specs.State.{History, entry, is_owner, owner, frames_of, opening_frames, holder}
+use Rattle.eleos_base.specs.Runs.{first_of_run, run_with}
+use Rattle.eleos_base.specs.Places.{Owner, frame_counts, all_frames}
+use Rattle.eleos_core.specs.Seals.{Seals}
+use Rattle.eleos_core.specs.State.{History, entry, is_owner, owner, frames_of, opening_frames}
 use Rattle.eleos_core.specs.Legal.{CoreStep, CoreRun, OneIsPool, IsOwner}
-use Rattle.eleos_core.specs.Laws.{share, SharesAreAll, OfEveryRun}
+use Rattle.eleos_core.specs.Laws.{share}
 use Rattle.eleos_core.proofs.Tests.{by_test}
 use Rattle.eleos_core.proofs.Times.{times, one_if, times_one_more, times_more_other, times_less, none_left, length_less, times_in, times_out, sum-times}
 use Rattle.eleos_core.proofs.RunNumbers.{run_times, run_past, run_is, IsBelow, run_below, first_behind, sum_of_runs}
@@ -29,10 +29,12 @@ owner_sym (Some d) (Some e) = by_test (d == e) (λ v. d == e ≡ v → v ≡ (e 
     (λ _ is. sym (eq-eqb e d (sym (eqb-true d e is))))
     (λ _ is. sym (ne_eqb e d (λ same. eqb-false d e is (sym same)))) refl
 
+-- an owner is the same as itself
 pub same_owner : (o : Owner) → is_owner o o ≡ true
 same_owner None = refl
 same_owner (Some e) = eq-eqb e e refl
 
+-- and owners that the test finds one are one
 pub owner_is : (o p : Owner) → is_owner o p ≡ true → o ≡ p
 owner_is None None is = refl
 owner_is None (Some e) is = cc
@@ -158,6 +160,7 @@ module _ (k : Plan) where
     owner_step past who (Spoiled wanted) blocks reply step f is = is
     owner_step past who (Survey e goal sweep) blocks reply step f is = is
 
+    -- after every legal history a frame belongs to the pool or to an enclave of the plan
     pub owner_of_plan : (h : History) → CoreRun k x h → (f : ℕ) → IsOwner k (owner k h f)
     owner_of_plan [] run f = owner_at_start (run_with (frame_counts k) f) (run_below (frame_counts k) f)
     owner_of_plan (e ∷ past) run f = owner_step past e.who e.event e.blocks e.reply run.0 f (owner_of_plan past run.1 f)
@@ -197,12 +200,7 @@ module _ (k : Plan) where
     shares_step past who (Spoiled wanted) blocks reply step once all = all
     shares_step past who (Survey e goal sweep) blocks reply step once all = all
 
+    -- after every legal history the shares of all enclaves and the pool are as many as the machine has frames
     pub shares_sum : (h : History) → CoreRun k x h → all_shares h ≡ all_frames k
     shares_sum [] run = shares_start
     shares_sum (e ∷ past) run = shares_step past e.who e.event e.blocks e.reply run.0 (stands_once x past run.1) (shares_sum past run.1)
-
-pub shares_are_all : OfEveryRun (λ k key h. SharesAreAll k h)
-shares_are_all k key h run = record {
-  sum = shares_sum k (seals_by key) h run.legal;
-  resident = λ o. count_by-le-length (λ f. is_some (holder h f)) (frames_of k h o);
-}

@@ -16,7 +16,7 @@ use Rattle.eleos_core.specs.Legal.{CoreRun, CoreStep, passes}
 use Rattle.eleos_core.specs.Offences.{IsUnlinked}
 use Rattle.eleos_core.specs.PartLaws.{IsLenOf}
 use Rattle.eleos_core.specs.Parts.{MayStep, Part, Stamp, clock_cell, frame_cell, frame_in, list_in, owner_in, page_cell, part_at, part_of, passes_in, subs_in}
-use Rattle.eleos_core.specs.Places.{all_frames, all_pages, page_of, per_page, sub_of}
+use Rattle.eleos_base.specs.Places.{all_frames, all_pages, page_of, per_page, sub_of}
 use Rattle.eleos_core.specs.Quiet.{frames_of_owner}
 use Rattle.eleos_core.specs.Seals.{Seals}
 use Rattle.eleos_core.specs.State.{History, entry, frame, frame_by, frames_of, is_present, links, owner, page_places}
@@ -79,9 +79,11 @@ module _ (x : Seals) (old : Cells) (past : History) (shows : Shows x past old) w
   pub places_shown : (p : ℕ) → p < all_pages old.plan → sealed_places p (page_in old p) ≡ page_places old.plan past p
   places_shown p inside = ap (λ (q : Part). sealed_places p q) (page_shown p inside) ∙ sealed_are old.plan x past (p * per_page old.plan) (per_page old.plan)
 
+  -- the frame that a page is in by the cells is the one after the history
   pub frame_shown : (p : ℕ) → p < all_pages old.plan → frame_in (page_in old p) ≡ frame past p
   frame_shown p inside = ap (λ (q : Part). frame_in q) (page_shown p inside)
 
+  -- and so is the owner of a frame
   pub owner_shown : (f : ℕ) → f < all_frames old.plan → owner_in (the_frame_in old f) ≡ owner old.plan past f
   owner_shown f inside = ap (λ (q : Part). owner_in q) (shows.parts (frame_cell old.plan f)) ∙ owner_here old.plan x past f inside
 

@@ -14,8 +14,8 @@ use Rattle.eleos_base.specs.Plans.{IsCaller, IsGood, enclave_of, sub_bytes}
 use Rattle.eleos_core.specs.declared.accesses.spots.Spot.{Spot}
 use Rattle.eleos_core.specs.declared.event.Event.TheVariants.{Op}
 use Rattle.eleos_core.specs.Accesses.{IsSpot}
-use Rattle.eleos_core.specs.Places.{all_pages, first_sub, page_counts, page_of, per_page, sub_of, subs}
-use Rattle.eleos_core.specs.Runs.{first_of_run}
+use Rattle.eleos_base.specs.Places.{all_pages, first_sub, page_counts, page_of, per_page, sub_of, subs}
+use Rattle.eleos_base.specs.Runs.{first_of_run}
 use Rattle.eleos_core.specs.State.{writes}
 use Rattle.eleos_core.proofs.Tests.{by_test, first_of, second_of}
 
@@ -30,6 +30,7 @@ pub record IsInRange (k : Plan) (who : ℕ) (at : Addr) (n : ℕ) : Type 0 where
 abbrev pub in_range : Plan → ℕ → Addr → ℕ → Bool
 in_range k who at n = is_in_range (sub_bytes k (enclave_of k who)) (enclave_of k who) (subs k (enclave_of k who)) at n
 
+-- an access that passes the test is one in range
 pub range_is : (k : Plan) (who : ℕ) (at : Addr) (n : ℕ) → in_range k who at n ≡ true → IsInRange k who at n
 range_is k who at n holds =
     let e : ℕ = enclave_of k who in
@@ -67,6 +68,7 @@ page_inside k who at n good caller range =
 pub index_is : (k : Plan) (at : Addr) (spot : Spot) → IsSpot k at spot → sub_of k at - page_of k (sub_of k at) * per_page k ≡ spot.index
 index_is k at spot is = let page = is.page in let place = is.place in let index = is.index in omega arith
 
+-- counted from the page's first sub-page, its index leads to the sub-page of the address
 pub place_is : (k : Plan) (at : Addr) (spot : Spot) → IsSpot k at spot → page_of k (sub_of k at) * per_page k + spot.index ≡ sub_of k at
 place_is k at spot is = let page = is.page in let place = is.place in let index = is.index in omega arith
 

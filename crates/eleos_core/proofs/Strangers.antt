@@ -8,7 +8,7 @@ use Rattle.eleos_base.specs.Plans.{IsCaller}
 use Rattle.eleos_core.specs.declared.event.Event.{Event}
 use Rattle.eleos_core.specs.declared.event.Event.TheVariants.{Link, Unlink}
 use Rattle.eleos_core.specs.Legal.{CoreRun, CoreStep}
-use Rattle.eleos_core.specs.Places.{page_of, sub_of}
+use Rattle.eleos_base.specs.Places.{page_of, sub_of}
 use Rattle.eleos_core.specs.Seals.{Seals}
 use Rattle.eleos_core.specs.State.{History, entry, links, links_by}
 use Rattle.eleos_core.proofs.Tests.{by_test}
@@ -31,6 +31,7 @@ module _ (k : Plan) (x : Seals) (by : ℕ) (stranger : IsCaller k by → ⊥) wh
   links_step past who (Unlink q) blocks reply p step none = no_more who step.within.0 true (p == q) (links k past by p) (links k past by p - 1) none
   links_step past who _ blocks reply p step none = none
 
+  -- who is no caller has no link on any page after a legal history
   pub no_links : (h : History) → CoreRun k x h → (p : ℕ) → links k h by p ≡ 0
   no_links [] run p = refl
   no_links (e ∷ past) run p = links_step past e.who e.event e.blocks e.reply p run.0 (no_links past run.1 p)

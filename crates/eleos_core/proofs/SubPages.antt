@@ -14,8 +14,8 @@ use Rattle.eleos_base.specs.Plans.{IsCaller, IsGood, enclave_of}
 use Rattle.eleos_base.specs.Ties.{Has}
 use Rattle.eleos_core.specs.Cells.{piece}
 use Rattle.eleos_core.specs.Parts.{page_cell, pages_of_run}
-use Rattle.eleos_core.specs.Places.{all_pages, first_sub, page_counts, subs}
-use Rattle.eleos_core.specs.Runs.{first_of_run}
+use Rattle.eleos_base.specs.Places.{all_pages, first_sub, page_counts, subs}
+use Rattle.eleos_base.specs.Runs.{first_of_run}
 use Rattle.eleos_core.proofs.FreeRuns.{by_test, nat_ge_of, nat_lt_of}
 
 -- the first page of an enclave is behind those of the enclaves before
@@ -53,12 +53,15 @@ found_start e at block starts =
 pub in_run_more : (start n s : ℕ) → s ≢ start + n → is_in_run start n s ≡ is_in_run start (n + 1) s
 in_run_more start n s differ = grind (arith, nat_tests)
 
+-- a run that is one longer has the sub-page that follows it
 pub in_run_last : (start n s : ℕ) → s ≡ start + n → is_in_run start (n + 1) s ≡ true
 in_run_last start n s is = grind (arith, nat_tests)
 
+-- and the run itself has it not
 pub past_run : (start n s : ℕ) → s ≡ start + n → is_in_run start n s ≡ false
 past_run start n s is = grind (arith, nat_tests)
 
+-- an empty run has none
 pub in_no_run : (start s : ℕ) → is_in_run start 0 s ≡ false
 in_no_run start s = grind (arith, nat_tests)
 
@@ -77,6 +80,7 @@ has_page k a (suc n) p low high = by_test (nat_lt a p)
     (λ above. let lt : a < p = nat_lt_of a p above in inr (has_page k (a + 1) n p (omega arith) (omega arith)))
     (λ here. let ge : p ≤ a = nat_ge_of a p here in let same : p ≡ a = omega arith in inl (ap (page_cell k) same))
 
+-- so its cell is among those that an alloc, free or share of the run touches
 pub run_has : (k : Plan) (start n s p : ℕ) → is_in_run start n s ≡ true → p * 4 ≤ s → s < p * 4 + 4 → Has (page_cell k p) (map (page_cell k) (pages_of_run k start n))
 run_has k start zero s p is low high = absurd (let wrong : true ≡ false = sym is ∙ in_no_run start s in cc)
 run_has k start (suc n) s p is low high =
@@ -92,9 +96,11 @@ length-zeros : (n : ℕ) → length (zeros n) ≡ n
 unfolding zeros
 length-zeros n = length-replicate n 0
 
+-- they are as many as before
 pub length-cleared : (bytes : List ℕ) (i : ℕ) → 1024 * i + 1024 ≤ length bytes → length (splice bytes (1024 * i) (1024 * i + 1024) (zeros 1024)) ≡ length bytes
 length-cleared bytes i inside = simp (length-append, length-take, length-drop, length-zeros) (omega arith)
 
+-- the piece of that sub-page is zeros
 pub piece_cleared : (bytes : List ℕ) (i : ℕ) → 1024 * i + 1024 ≤ length bytes → piece i (splice bytes (1024 * i) (1024 * i + 1024) (zeros 1024)) ≡ zeros 1024
 piece_cleared bytes i inside =
     let before : length (take (1024 * i) bytes) ≡ 1024 * i = simp length-take (omega arith) in
@@ -111,6 +117,7 @@ filled bytes new a inside are =
     let rest : drop (a + 1024 - a) (drop a bytes) ≡ drop (a + 1024) bytes = drop-drop (a + 1024 - a) a bytes ∙ ap (λ n. drop n bytes) on in
     λ t. take a bytes ++ (all t ++ rest t)
 
+-- and the other pieces are as they were
 pub piece_kept : (bytes : List ℕ) (i j : ℕ) → 1024 * i + 1024 ≤ length bytes → j ≢ i → piece j (splice bytes (1024 * i) (1024 * i + 1024) (zeros 1024)) ≡ piece j bytes
 piece_kept bytes i j inside differ = by_test (nat_lt j i)
     (λ yes_is. let below : j < i = nat_lt_of j i yes_is in

@@ -16,7 +16,7 @@ use Rattle.eleos_core.specs.declared.event.Event.TheVariants.{Op, Fill, Evict}
 use Rattle.eleos_core.specs.Legal.{CoreStep, access_refusal, is_worn, verdict}
 use Rattle.eleos_core.specs.PartLaws.{IsLenOf}
 use Rattle.eleos_core.specs.Parts.{Stamp, SubPart, block_by, block_in, home_of_sub, is_in_block, is_zeroed, opened_in, page_part, part_after, part_of, places_in, sealed_from, sealing_in, sub_after, sub_in, sub_part, the_page}
-use Rattle.eleos_core.specs.Places.{all_pages, blank_bytes, first_sub, is_sub_of, page_of, per_page, sub_of, subs}
+use Rattle.eleos_base.specs.Places.{all_pages, blank_bytes, first_sub, is_sub_of, page_of, per_page, sub_of, subs}
 use Rattle.eleos_core.specs.Seals.{Seals}
 use Rattle.eleos_core.specs.State.{History, block_for, bytes, covers, entry, evicts, fills, frame, is_dirty, is_present, is_sealed, is_sealing, last, live, opened, places, rewritten, sealing, version, writes}
 use Rattle.eleos_core.proofs.CellNumbers.{map_same, mapped_range, part_of_sub, parts_of, sealed_are}
@@ -124,6 +124,7 @@ module _ (k : Plan) (x : Seals) (past : History) where
   abbrev pub opens : List ℕ → List (List ℕ) → ℕ → List ℕ
   opens qs blocks s = if is_sealed k past s then x.unseal s (version k past s) (block_for qs blocks s) else blank_bytes k
 
+  -- the text that an accepted write opens is the same by the part of its page and after the history
   pub opened_write : (who : ℕ) (event : Event) (blocks : List (List ℕ)) (reply : Reply) (s : ℕ) → CoreStep k x past (entry who event blocks reply) → writes k who event reply s ≡ true → opens (ps event s) blocks s ≡ opens (places k event past) blocks s
   opened_write who (Op (Write at new)) blocks reply s step w =
       let there : s ≡ sub_of k at = sym (written k x past who at new blocks reply s step w).there in

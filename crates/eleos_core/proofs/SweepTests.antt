@@ -1,5 +1,5 @@
 -- What tests of all that a sweep saw tell of it.
-use Rattle.std.proofs.Common.{◌≡◌, ℕ, suc, ◌+◌, ◌<◌, ◌≤◌, List, [], ◌∷◌, length, Bool, true, false, cond, ◌==◌, ◌||◌, ◌⊎◌, inl, inr, nat_eq, Some, refl, sym, ◌∙◌, ap, subst, arith, IsPermutation, Contains}
+use Rattle.std.proofs.Common.{◌≡◌, ℕ, suc, ◌+◌, ◌<◌, ◌≤◌, List, [], ◌∷◌, length, Bool, true, false, cond, ◌==◌, ◌&&◌, ◌||◌, ◌⊎◌, inl, inr, nat_eq, Some, refl, sym, ◌∙◌, ap, subst, arith, IsPermutation, Contains}
 use Rattle.std.specs.List.{AllByRecursion, IsDistinct, count_by, list_all, list_any}
 use Rattle.std.proofs.lemmas.Bool.{and_parts, and_from, eqb-true, eq-eqb, or_cases, or_left, or_right}
 use Rattle.std.proofs.lemmas.List.{length-map}
@@ -26,12 +26,15 @@ module _ (test : Looked → Bool) (P : Looked → Type 0) where
 abbrev pub is_free : Looked → Bool
 is_free seen = seen.word == 0
 
+-- the frame was found pinned, or somebody had its turn
 abbrev pub is_taken_there : Looked → Bool
 is_taken_there seen = is_taken seen.word
 
+-- somebody had the turn of the frame
 abbrev pub is_busy_there : Looked → Bool
 is_busy_there seen = is_busy seen.word
 
+-- it was found free, or taken
 abbrev pub is_free_or_taken : Looked → Bool
 is_free_or_taken seen = seen.word == 0 || is_taken seen.word
 
@@ -60,6 +63,7 @@ taken_decides sweep frames named r all is decides = (
   (λ taken. decides.1 (subst (λ z. IsPermutation z frames) (sym is) taken.all)),
 )
 
+-- and where one was not found taken, the sweep is none that found all taken
 pub not_taken : (sweep : List Looked) (frames : List ℕ) → list_all is_taken_there sweep ≡ false → IsTaken sweep frames → false ≡ true
 not_taken sweep frames not taken = sym not ∙ each_into is_taken_there (λ seen. is_taken seen.word ≡ true) (λ seen h. h) sweep taken.taken
 
@@ -71,6 +75,7 @@ short_decides sweep pool named r all is decides = (
   (λ short. decides.1 (subst (λ z. IsPermutation z pool) (sym is) short.all)),
 )
 
+-- where one was not found BUSY, the sweep is none that found the pool so
 pub not_short : (sweep : List Looked) (pool : List ℕ) → list_all is_busy_there sweep ≡ false → IsShort pool sweep → false ≡ true
 not_short sweep pool not short = sym not ∙ each_into is_busy_there (λ seen. is_busy seen.word ≡ true) (λ seen h. h) sweep short.busy
 
@@ -87,12 +92,18 @@ swept_decides own low sweep named r few all is decides = (
   (λ swept. decides.1 (subst (λ z. IsPermutation z own) (sym is) swept.all)),
 )
 
+-- where one was found neither free nor taken, the sweep is none that found too few
 pub not_swept : (own : List ℕ) (low : ℕ) (sweep : List Looked) (z : ℕ) → list_all is_free_or_taken sweep ≡ false → IsSwept own low sweep z → false ≡ true
 not_swept own low sweep z not swept = sym not ∙ each_into is_free_or_taken (λ seen. (seen.word ≡ 0) ⊎ (is_taken seen.word ≡ true)) either_into sweep swept.words
 
 -- IsEnough by its tests
 abbrev pub is_listed : List ℕ → List ℕ → Bool
 is_listed own frames = list_all (λ frame. list_any (nat_eq frame) own) frames
+
+-- by what the sweep names
+pub listed_are : (own : List ℕ) (sweep : List Looked) → list_all (λ (seen : Looked). list_any (nat_eq seen.frame) own) sweep ≡ is_listed own (frames_in sweep)
+listed_are own [] = refl
+listed_are own (seen ∷ sweep) = ap (λ b. list_any (nat_eq seen.frame) own && b) (listed_are own sweep)
 
 listed_from : (own : List ℕ) (sweep : List Looked) → is_listed own (frames_in sweep) ≡ true → AllByRecursion (λ (seen : Looked). Contains own seen.frame) sweep
 listed_from own [] all = tt
@@ -103,6 +114,7 @@ listed_into : (own : List ℕ) (sweep : List Looked) → AllByRecursion (λ (see
 listed_into own [] all = refl
 listed_into own (seen ∷ sweep) all = and_from (list_any (nat_eq seen.frame) own) (is_listed own (frames_in sweep)) (member_into seen.frame own all.0) (listed_into own sweep all.1)
 
+-- where no fewer than asked for were found free, all of the list: enough were found just where none is named twice
 pub enough_decides : (own : List ℕ) (low : ℕ) (sweep : List Looked) (named : List ℕ) (r : Bool) → low ≤ length sweep → list_all is_free sweep ≡ true → named ≡ frames_in sweep → is_listed own named ≡ true
     → (r ≡ true → IsDistinct nat_eq named) × (IsDistinct nat_eq named → r ≡ true) → (r ≡ true → IsEnough own low sweep (length sweep)) × (IsEnough own low sweep (length sweep) → r ≡ true)
 enough_decides own low sweep named r many all is listed decides = (
@@ -116,9 +128,11 @@ enough_decides own low sweep named r many all is listed decides = (
   (λ enough. decides.1 (subst (IsDistinct nat_eq) (sym is) enough.once)),
 )
 
+-- where one was not found free, the sweep is none that found enough
 pub not_free : (own : List ℕ) (low : ℕ) (sweep : List Looked) (z : ℕ) → list_all is_free sweep ≡ false → IsEnough own low sweep z → false ≡ true
 not_free own low sweep z not enough = sym not ∙ each_into is_free (λ seen. seen.word ≡ 0) free_into sweep enough.free
 
+-- and none where it names a frame that is not the owner's
 pub not_listed : (own : List ℕ) (low : ℕ) (sweep : List Looked) (z : ℕ) (named : List ℕ) → named ≡ frames_in sweep → is_listed own named ≡ false → IsEnough own low sweep z → false ≡ true
 not_listed own low sweep z named is not enough = sym not ∙ (ap (is_listed own) is ∙ listed_into own sweep enough.listed)
 
@@ -131,6 +145,7 @@ moved own (seen ∷ sweep) all x found = by_case (moved own sweep all.1 x) (or_c
     by_case rest (inl here) = ap (λ z. list_any (nat_eq z) own) (eqb-true x seen.frame here) ∙ member_into seen.frame own all.0
     by_case rest (inr later) = rest later
 
+-- so a sweep that found enough is no longer than the list
 pub enough_short : (own : List ℕ) (low : ℕ) (sweep : List Looked) (z : ℕ) → IsEnough own low sweep z → length sweep ≤ length own
 enough_short own low sweep z enough = let few : length (frames_in sweep) ≤ length own = no_longer (frames_in sweep) own enough.once (moved own sweep enough.listed) in
     let same : length (frames_in sweep) ≡ length sweep = length-map sweep (λ (seen : Looked). seen.frame) in omega arith
@@ -150,6 +165,7 @@ not_both own low sweep y z enough swept = let all : count_by is_free sweep ≡ l
 
 -- a reply that is allowed is the one found
 module _ (own pool : List ℕ) (low : ℕ) (sweep : List Looked) where
+  -- where enough were found free, that is the only reply that the search may have
   pub only_enough : IsEnough own low sweep (length sweep) → (reply : Reply) → SurveyReply own pool (Low low) sweep reply → Some (Enough (length sweep)) ≡ Some reply
   only_enough found (Enough z) enough = ap (λ n. Some (Enough n)) (sym enough.count)
   only_enough found (Swept z) swept = absurd (not_both own low sweep (length sweep) z found swept)

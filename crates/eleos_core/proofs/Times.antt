@@ -6,10 +6,12 @@ use Rattle.std.proofs.lemmas.Bool.Decides.{nat_tests}
 use Rattle.std.proofs.lemmas.List.Sums.{sum_by-cons}
 use Rattle.eleos_core.proofs.Tests.{by_test}
 
+-- how often the number g stands in the list
 abbrev pub times : ℕ → List ℕ → ℕ
 times g [] = 0
 times g (f ∷ fs) = if g == f then times g fs + 1 else times g fs
 
+-- 1 where the test holds, else 0
 abbrev pub one_if : Bool → ℕ
 one_if b = if b then 1 else 0
 
@@ -24,9 +26,11 @@ times_more g f (h ∷ fs) = by_test (g == h) (λ v. (if v then times g (fs ++ f 
     both true = refl
     both false = refl
 
+-- it stands there once more where it is that one
 pub times_one_more : (f : ℕ) (fs : List ℕ) → times f (fs ++ f ∷ []) ≡ times f fs + 1
 times_one_more f fs = times_more f f fs ∙ ap (λ v. if v then times f fs + 1 else times f fs) (eq-eqb f f refl)
 
+-- and as often as before where it is another
 pub times_more_other : (g f : ℕ) (fs : List ℕ) → g ≢ f → times g (fs ++ f ∷ []) ≡ times g fs
 times_more_other g f fs ne = times_more g f fs ∙ ap (λ v. if v then times g fs + 1 else times g fs) (ne_eqb g f ne)
 
@@ -58,6 +62,7 @@ times_out g a (suc n) out = let no_is : g == a ≡ false = ⊎_elim (λ (l : g <
     ap (λ v. if v then times g (range_with_len (a + 1) n) + 1 else times g (range_with_len (a + 1) n)) no_is
     ∙ times_out g (a + 1) n (⊎_elim (λ (l : g < a). inl (omega arith)) (λ (l : a + suc n ≤ g). inr (omega arith)) out)
 
+-- a number of the run stands there once
 pub times_in : (g a n : ℕ) → a ≤ g → g < a + n → times g (range_with_len a n) ≡ 1
 times_in g a zero low high = absurd (omega arith)
 times_in g a (suc n) low high = by_test (g == a) (λ v. g == a ≡ v → (if v then times g (range_with_len (a + 1) n) + 1 else times g (range_with_len (a + 1) n)) ≡ 1)

@@ -11,7 +11,7 @@ use Rattle.eleos_core.specs.declared.cells.page.Page.{Page}
 use Rattle.eleos_core.specs.Applying.{Makes, parts_in}
 use Rattle.eleos_core.specs.Cells.{Cells, IsPage, IsUse, IsCore, cells_of, part_of_frame, part_of_page}
 use Rattle.eleos_core.specs.Parts.{MayStep, Stamp, after_at, foot, frame_cell, no_part, page_cell, part_after, the_frame, the_page}
-use Rattle.eleos_core.specs.Places.{all_frames, all_pages}
+use Rattle.eleos_base.specs.Places.{all_frames, all_pages}
 use Rattle.eleos_core.specs.Seals.{Seals}
 use Rattle.eleos_core.specs.State.{links_by}
 use Rattle.eleos_core.proofs.Sets.{AreWhole, at_other, at_same, cell_of-frame, cell_of-page, frame_at, map_frame, map_page, page_at, page_not_frame, set_frame, set_page, core_whole, whole_page}
@@ -91,9 +91,11 @@ module _ (k : Plan) (live : List (List Live)) (clocks : List (List ℕ)) (pages 
     page_inside : p < length pages
     page_inside = let same = core.pages_are in omega arith
 
+    -- what holds of every page of a core holds of it
     pub page_kept : IsPage k.wear (all_frames k) page
     page_kept = subst (IsPage k.wear (all_frames k)) (sym page_is) (All-get_or (IsPage k.wear (all_frames k)) pages p page page_inside (All-from_recursion (IsPage k.wear (all_frames k)) pages core.each_page))
 
+    -- and the part of its cell is its own
     pub page_part_is : parts_in before (page_cell k p) ≡ part_of_page page
     page_part_is = page_at before p exists ∙ (get_or-map part_of_page pages p page no_part page_inside ∙ ap part_of_page (sym page_is))
 
@@ -102,9 +104,11 @@ module _ (k : Plan) (live : List (List Live)) (clocks : List (List ℕ)) (pages 
     frame_inside : f < length frames
     frame_inside = let same = core.frames_are in omega arith
 
+    -- what holds of the use of every frame of a core holds of its
     pub frame_kept : IsUse (all_pages k) frame.used
     frame_kept = subst (λ (other : Frame). IsUse (all_pages k) other.used) (sym frame_is)
         (All-get_or (λ (other : Frame). IsUse (all_pages k) other.used) frames f frame frame_inside (All-from_recursion (λ (other : Frame). IsUse (all_pages k) other.used) frames core.each_frame))
 
+    -- and the part of its cell is its own
     pub frame_part_is : parts_in before (frame_cell k f) ≡ part_of_frame frame
     frame_part_is = frame_at before f exists ∙ (get_or-map part_of_frame frames f frame no_part frame_inside ∙ ap part_of_frame (sym frame_is))

@@ -5,7 +5,7 @@ use Rattle.eleos_base.specs.declared.plan.Plan.{Plan}
 use Rattle.eleos_core.specs.Applying.{used}
 use Rattle.eleos_core.specs.Legal.{passes}
 use Rattle.eleos_core.specs.Parts.{passes_in, sealed_from}
-use Rattle.eleos_core.specs.Places.{per_page, subs_of}
+use Rattle.eleos_base.specs.Places.{per_page, subs_of}
 use Rattle.eleos_core.specs.Seals.{Seals}
 use Rattle.eleos_core.specs.State.{History, is_sealed, page_places}
 use Rattle.eleos_core.proofs.CellNumbers.{parts_of, sealed_are}
@@ -22,6 +22,7 @@ used_same f g (s ∷ ss) [] h = refl
 used_same f g (s ∷ ss) (c ∷ cs) h = ap (λ v. c ∷ (if v then used f ss cs else no_blocks)) (h.0 c) ∙ ap (λ r. c ∷ (if g s c then r else no_blocks)) (used_same f g ss cs h.1)
 
 module _ (k : Plan) (x : Seals) (past : History) where
+  -- the blocks used for a whole page are the same by its part and after the history
   pub page_used : (p : ℕ) (given : List (List ℕ)) → used (passes_in k x (parts_of k x past p)) (sealed_from (p * per_page k) (parts_of k x past p)) given ≡ used (passes k x past) (page_places k past p) given
   page_used p given = ap (λ ps. used (passes_in k x (parts_of k x past p)) ps given) (sealed_are k x past (p * per_page k) (per_page k))
       ∙ used_same (passes_in k x (parts_of k x past p)) (passes k x past) (filter (is_sealed k past) (subs_of k p)) given

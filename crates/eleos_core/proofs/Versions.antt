@@ -17,7 +17,7 @@ use Rattle.eleos_core.specs.declared.event.Entry.{Entry}
 use Rattle.eleos_core.specs.declared.event.Event.{Event}
 use Rattle.eleos_core.specs.declared.event.Event.TheVariants.{Op, Fill, Evict}
 use Rattle.eleos_core.specs.Seals.{Seals}
-use Rattle.eleos_core.specs.Places.{first_sub, is_sub_of, page_of, sub_of, subs}
+use Rattle.eleos_base.specs.Places.{first_sub, is_sub_of, page_of, sub_of, subs}
 use Rattle.eleos_core.specs.State.{History, covers, entry, frame, is_dirty, is_present, live, version, writes}
 use Rattle.eleos_core.specs.Legal.{CallStep, CoreRun, CoreStep, access_refusal, is_worn, verdict}
 use Rattle.eleos_core.proofs.Tests.{by_test, first_of, second_of}

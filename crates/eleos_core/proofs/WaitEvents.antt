@@ -23,7 +23,7 @@ use Rattle.eleos_core.specs.Cells.{Cells}
 use Rattle.eleos_core.specs.Laws.{share}
 use Rattle.eleos_core.specs.Legal.{CoreRun, NeedsFrame}
 use Rattle.eleos_core.specs.Parts.{Part, block_at, refusal_in, wanted_refusal_in}
-use Rattle.eleos_core.specs.Places.{all_pages, page_of, sub_of, subs}
+use Rattle.eleos_base.specs.Places.{all_pages, page_of, sub_of, subs}
 use Rattle.eleos_core.specs.Quiet.{AllPass, IsSpoiledAt, IsStarving, IsSurveyed, IsWaiting, frames_of_owner, spoiled_stamp, starved_stamp, survey_stamp, waiting_fault, wanted_page, wanted_part}
 use Rattle.eleos_core.specs.Seals.{Seals}
 use Rattle.eleos_core.specs.State.{History, address_of, frames_of}
@@ -83,6 +83,7 @@ module _ (x : Seals) (old : Cells) where
   pub starved_applied : (who : ℕ) (wanted : Wanted) (sweep : List Looked) (reply : Reply) → Makes x (starved_stamp who wanted sweep reply) old old → AlwaysApplies x old who (Starved wanted sweep) [] reply [] old
   starved_applied who wanted sweep reply makes past good run shows = applies old.plan x good past who (Starved wanted sweep) [] [] reply 0 old old [] refl run shows makes tt refl refl
 
+  -- of what is not starving it is illegal, by whether its page is in a frame
   pub starved_illegal : (who : ℕ) (wanted : Wanted) (sweep : List Looked) (part : Offence) → (IsStarving old who wanted sweep → ⊥) → part ≡ waiting_fault old wanted → AlwaysIllegal x old who (Starved wanted sweep) [] part
   starved_illegal who wanted sweep part fed fault past good run shows = record {
     never = λ count reply step. fed (starving_of old x who reply 0 wanted sweep (take count []) (may_of x old past shows (stamp_of who (Starved wanted sweep) (take count []) reply 0) good run step tt));
@@ -96,17 +97,20 @@ module _ (x : Seals) (old : Cells) where
       applies old.plan x good past who (SpoiledPage wanted) given (take spoiled.used given) (Tampered spoiled.place) 0 old old [] refl run shows makes tt refl
       (sym (used_shown x old past shows (wanted_page old wanted) given (waits_there old who wanted waiting)) ∙ sym fails.used_are)
 
+  -- where a place was found whose block does not pass, the answer with that place was applied
   pub spoiled_answered : (who : ℕ) (wanted : Wanted) (given : List (List ℕ)) (found : Option Spoiled) (spoiled : Spoiled) → found ≡ Some spoiled → IsWaiting old who wanted → IfSome found (IsSpoiledAt old x wanted given)
       → IfSome found (λ (z : Spoiled). Makes x (spoiled_stamp who wanted (take z.used given) (Tampered z.place)) old old) → AlwaysApplies x old who (SpoiledPage wanted) given (Tampered spoiled.place) [] old
   spoiled_answered who wanted given found spoiled is waiting fails makes = spoiled_applied who wanted given spoiled waiting
       (found_said (IsSpoiledAt old x wanted given) found spoiled is fails) (found_said (λ (z : Spoiled). Makes x (spoiled_stamp who wanted (take z.used given) (Tampered z.place)) old old) found spoiled is makes)
 
+  -- of what does not wait it is illegal, by whether its page is in a frame
   pub waiting_illegal : (who : ℕ) (wanted : Wanted) (given : List (List ℕ)) (part : Offence) → (IsWaiting old who wanted → ⊥) → part ≡ waiting_fault old wanted → AlwaysIllegal x old who (SpoiledPage wanted) given part
   waiting_illegal who wanted given part served fault past good run shows = record {
     never = λ count reply step. served (waiting_of old x who reply 0 wanted (take count given) (may_of x old past shows (stamp_of who (SpoiledPage wanted) (take count given) reply 0) good run step tt));
     part_is = fault ∙ ap (λ v. if v then Present else Frame) (present_shown x old past shows run (address_of wanted));
   }
 
+  -- and so it is of what waits where all blocks of its page pass
   pub passed_illegal : (who : ℕ) (wanted : Wanted) (given : List (List ℕ)) (found : Option Spoiled) → found ≡ None → IsWaiting old who wanted → IfNone found (AllPass old x wanted given) → AlwaysIllegal x old who (SpoiledPage wanted) given Frame
   passed_illegal who wanted given found is waiting all past good run shows = record {
     never = λ count reply step. spoiled_never old x who reply 0 wanted given (none_said (AllPass old x wanted given) found is all) count
@@ -120,6 +124,7 @@ module _ (x : Seals) (old : Cells) where
   survey_answered who e goal sweep found reply is makes past good run shows = applies old.plan x good past who (Survey e goal sweep) [] [] reply 0 old old [] refl run shows
       (found_said (λ (z : Reply). Makes x (survey_stamp who e goal sweep z) old old) found reply is makes) tt refl refl
 
+  -- where no reply is found no entry of the search is legal
   pub survey_illegal : (who e : ℕ) (goal : Goal) (sweep : List Looked) → e < length old.plan.enclaves → (found : Option Reply) → found ≡ None → IsSurveyed old e goal sweep found → AlwaysIllegal x old who (Survey e goal sweep) [] Frame
   survey_illegal who e goal sweep inside found is surveyed past good run shows = record {
     never = λ count reply step.

@@ -21,9 +21,9 @@ use Rattle.eleos_core.specs.Cells.{Cells, IsCore, cells_of, part_in, part_of_fra
 use Rattle.eleos_core.specs.Legal.{NeedsFrame}
 use Rattle.eleos_core.specs.Fills.{sealed_places}
 use Rattle.eleos_core.specs.Parts.{Part, block_at, frame_in, no_part, page_cell, sealed_from, subs_in, wanted_refusal_in}
-use Rattle.eleos_core.specs.Places.{all_pages, home_of, page_counts, page_of, sub_of}
+use Rattle.eleos_base.specs.Places.{all_pages, home_of, page_counts, page_of, sub_of}
 use Rattle.eleos_core.specs.Quiet.{IsStarving, IsWaiting, MayWait, frames_of_owner, wanted_frames}
-use Rattle.eleos_core.specs.Runs.{first_of_run, run_with}
+use Rattle.eleos_base.specs.Runs.{first_of_run, run_with}
 use Rattle.eleos_core.specs.State.{address_of}
 use Rattle.eleos_core.specs.Sweeps.{IsTaken}
 use Rattle.eleos_core.proofs.AccessParts.{accepted_range}
@@ -88,6 +88,7 @@ module _ (k : Plan) (live : List (List Live)) (clocks : List (List ℕ)) (pages 
       ap frame_in (get_or-map part_of_frame frames f (some_item frames f small) no_part small))
       (λ h. refl)
 
+  -- so the page of an address beyond the machine's pages is in no frame
   pub absent_beyond : (at : Addr) → all_pages k ≤ page_of k (sub_of k at) → false ≡ is_some (frame_in (page_for cells at))
   absent_beyond at out = sym (ap is_some (no_page (page_of k (sub_of k at)) out))
 
@@ -102,6 +103,7 @@ module _ (k : Plan) (live : List (List Live)) (clocks : List (List ℕ)) (pages 
       ap subs_in (get_or-map part_of_frame frames f (some_item frames f small) no_part small))
       (λ h. refl)
 
+  -- so the page of such an address takes no block
   pub unsealed_beyond : (at : Addr) → all_pages k ≤ page_of k (sub_of k at) → [] ≡ sealed_places (page_of k (sub_of k at)) (page_for cells at)
   unsealed_beyond at out = sym (ap (sealed_from (page_of k (sub_of k at) * 4)) (no_subs (page_of k (sub_of k at)) out))
 

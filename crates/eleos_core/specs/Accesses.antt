@@ -1,23 +1,25 @@
 -- Accesses by the parts of the machine's cells: which are refused, which block each takes from the host, and what is made of it.
-use Rattle.std.specs.Prelude.{◌≡◌, ℕ, true, false, ◌+◌, ◌*◌, ◌%◌, ◌<◌, List, [], ◌∷◌, length, map, Bool, ◌||◌, nat_eq, Option, Some, None, is_some, if◌then◌else◌}
+use Rattle.std.specs.Prelude.{◌≡◌, ℕ, true, false, ◌+◌, ◌*◌, ◌%◌, ◌<◌, ◌==◌, ◌&&◌, not, List, [], ◌∷◌, length, map, Bool, ◌||◌, nat_eq, Option, Some, None, is_some, if◌then◌else◌}
 use Rattle.std.specs.List.{AllByRecursion, splice}
 use Rattle.std.specs.Cmp.Lexicographic.{pointwise}
 use Rattle.eleos_base.specs.declared.memory.Addr.{Addr}
 use Rattle.eleos_base.specs.declared.memory.Op.{Op as Calls}
 use Rattle.eleos_base.specs.declared.memory.Op.TheVariants.{Read, Write}
 use Rattle.eleos_base.specs.declared.memory.Reply.{Reply}
+use Rattle.eleos_base.specs.declared.memory.Reply.TheVariants.{Worn}
 use Rattle.eleos_base.specs.declared.plan.Plan.{Plan}
-use Rattle.eleos_base.specs.Plain.{zeros}
-use Rattle.eleos_base.specs.Plans.{sub_bytes}
+use Rattle.eleos_base.specs.Plain.{is_in_range, use_refusal, zeros}
+use Rattle.eleos_base.specs.Plans.{enclave_of, sub_bytes}
 use Rattle.eleos_core.specs.declared.accesses.spots.Spot.{Spot}
+use Rattle.eleos_core.specs.declared.cells.sub_page.SubPage.{SubPage}
 use Rattle.eleos_core.specs.declared.event.Event.{Event}
 use Rattle.eleos_core.specs.declared.event.Event.TheVariants.{Op, Link, Unlink}
 use Rattle.eleos_core.specs.declared.machine.Put.{Put}
 use Rattle.eleos_core.specs.Applying.{page_puts, parts_in, put_of, stamp_of}
 use Rattle.eleos_core.specs.Cells.{Cells, sub_size, subs_per_page}
 use Rattle.eleos_core.specs.Legal.{Judged, failed, judged, passed}
-use Rattle.eleos_core.specs.Parts.{CallOn, Part, Stamp, SubPart, access_places_in, frame_in, is_worn_in, page_after, page_cell, refusal_in, sub_in, subs_in}
-use Rattle.eleos_core.specs.Places.{page_of, per_page, sub_of}
+use Rattle.eleos_core.specs.Parts.{CallOn, Part, Stamp, SubPart, access_places_in, frame_in, is_worn_in, page_after, page_cell, part_after, refusal_in, sub_in, subs_in, the_page}
+use Rattle.eleos_base.specs.Places.{page_of, per_page, sub_of, subs}
 use Rattle.eleos_core.specs.Seals.{Seals}
 use Rattle.eleos_core.specs.State.{block_for}
 
@@ -41,6 +43,7 @@ sub_for k at q = sub_in k (subs_in q) (sub_of k at)
 abbrev pub refusal_for : Plan → ℕ → Addr → ℕ → Part → Option Reply
 refusal_for k who at n q = refusal_in k who at n (sub_for k at q).block
 
+-- why the machine's cells refuse an access of so many bytes at the address
 abbrev pub refusal_on : Cells → ℕ → Addr → ℕ → Option Reply
 refusal_on m who at n = refusal_for m.plan who at n (page_for m at)
 
@@ -114,14 +117,48 @@ Reseals x s from new blocks u (Some block) after = IsResealed x s from new block
 abbrev pub read_stamp : ℕ → Addr → ℕ → List (List ℕ) → Reply → Stamp
 read_stamp who at n blocks reply = stamp_of who (Op (Read at n)) blocks reply 0
 
+-- of a write, for which these blocks came
 abbrev pub write_stamp : ℕ → Addr → List ℕ → List (List ℕ) → Reply → Stamp
 write_stamp who at new blocks reply = stamp_of who (Op (Write at new)) blocks reply 0
 
+-- of a link, which takes no block
 abbrev pub link_stamp : ℕ → Addr → Reply → Stamp
 link_stamp who at reply = stamp_of who (Link at) [] reply 0
 
+-- of an unlink of a page, which takes no block
 abbrev pub unlink_stamp : ℕ → ℕ → Reply → Stamp
 unlink_stamp who page reply = stamp_of who (Unlink page) [] reply 0
+
+-- so many bytes from the address on lie in one sub-page of the caller's enclave
+abbrev pub IsAccess : Plan → ℕ → Addr → ℕ → Type 0
+IsAccess k who at n = let e = enclave_of k who in is_in_range (sub_bytes k e) e (subs k e) at n ≡ true
+
+-- the page of the address
+abbrev pub page_at : Plan → Addr → ℕ
+page_at k at = page_of k (sub_of k at)
+
+-- the first of two, if there is one
+abbrev pub first_of : Option Reply → Option Reply → Option Reply
+first_of (Some reply) other = Some reply
+first_of None other = other
+
+-- why a write in range to the sub-page is refused
+abbrev pub write_refusal : Plan → ℕ → SubPage → ℕ → Option Reply
+write_refusal k who u place = first_of (use_refusal who u.block) (if not u.is_dirty && u.version == k.wear then Some (Worn place) else None)
+
+-- a read with this reply is legal by the part of its page, which it leaves as it is
+pub record ReadsOn (k : Plan) (x : Seals) (who : ℕ) (at : Addr) (n : ℕ) (blocks : List (List ℕ)) (part : Part) (reply : Reply) : Type 0 where
+  pub legal : CallOn k x (read_stamp who at n blocks reply) (λ _. part) (Read at n)
+  pub same : part ≡ part_after k x (read_stamp who at n blocks reply) (the_page (page_at k at)) part
+
+-- a write with this reply is legal by the part of its page, of which it makes this one
+pub record WritesOn (k : Plan) (x : Seals) (who : ℕ) (at : Addr) (new : List ℕ) (blocks : List (List ℕ)) (before : Part) (reply : Reply) (after : Part) : Type 0 where
+  pub legal : CallOn k x (write_stamp who at new blocks reply) (λ _. before) (Write at new)
+  pub made : after ≡ part_after k x (write_stamp who at new blocks reply) (the_page (page_at k at)) before
+
+-- the blocks that a write seals, each with its place
+abbrev pub sealed_by : Plan → Seals → ℕ → Addr → List ℕ → List (List ℕ) → Part → Reply → List (ℕ × List ℕ)
+sealed_by k x who at new blocks before reply = page_puts k x (write_stamp who at new blocks reply) (page_at k at) before
 
 -- a read with this reply is legal by the part of its page
 abbrev pub ReadsPage : Plan → Seals → ℕ → Addr → ℕ → List (List ℕ) → Part → Reply → Type 0

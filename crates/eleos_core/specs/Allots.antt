@@ -68,6 +68,7 @@ pub record IsCleared (i : ℕ) (old new : Option Present) : Type 0 where
 abbrev pub KeepsPage : Page → Page → Type 0
 KeepsPage old new = (wear frames : ℕ) → IsPage wear frames old → IsPage wear frames new
 
+-- what holds of all the old pages holds of all the new ones, whatever the wear limit and the number of frames
 abbrev pub KeepsPages : List Page → List Page → Type 0
 KeepsPages old new = (wear frames : ℕ) → AllByRecursion (IsPage wear frames) old → AllByRecursion (IsPage wear frames) new
 

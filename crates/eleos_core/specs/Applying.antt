@@ -14,7 +14,7 @@ use Rattle.eleos_core.specs.declared.machine.Put.{Put}
 use Rattle.eleos_core.specs.Cells.{Cells, links_in, part_in}
 use Rattle.eleos_core.specs.Legal.{CoreRun, CoreStep, passes}
 use Rattle.eleos_core.specs.Parts.{Part, Stamp, SubPart, MayStep, after_at, cell_of, foot, frame_in, page_cell, part_at, places_in, sealing_in, seals_in, subs_in}
-use Rattle.eleos_core.specs.Places.{all_pages, all_subs, page_of, per_page, sub_of}
+use Rattle.eleos_base.specs.Places.{all_pages, all_subs, page_of, per_page, sub_of}
 use Rattle.eleos_core.specs.Seals.{Seals}
 use Rattle.eleos_core.specs.State.{History, address_of, entry, frame, is_owner, is_present, is_sealing, last, links, links_by, owner, places}
 

@@ -14,12 +14,13 @@ use Rattle.eleos_core.specs.declared.cells.page.Present.{Present}
 use Rattle.eleos_core.specs.declared.cells.sub_page.SubPage.{SubPage}
 use Rattle.eleos_core.specs.Order.{AreInOrder}
 use Rattle.eleos_core.specs.Parts.{Cell, Part, SubPart, no_cell, the_alloc, the_clock, the_page, the_frame, no_part, alloc_part, clock_part, page_part, frame_part}
-use Rattle.eleos_core.specs.Places.{all_frames, all_pages, subs}
+use Rattle.eleos_base.specs.Places.{all_frames, all_pages, subs}
 
 -- bytes of a sub-page, and sub-pages of a page
 abbrev pub sub_size : ℕ
 sub_size = 1024
 
+-- a page has 4 sub-pages, so 4,096 bytes
 abbrev pub subs_per_page : ℕ
 subs_per_page = 4
 

@@ -14,7 +14,7 @@ use Rattle.eleos_core.specs.declared.event.Event.{Event}
 use Rattle.eleos_core.specs.declared.event.Event.TheVariants.{Op, Link, Unlink, Fill, Evict, Move, Starved, Spoiled, Survey}
 use Rattle.eleos_core.specs.declared.event.Wanted.{Wanted}
 use Rattle.eleos_core.specs.declared.event.Wanted.TheVariants.{Link as ALink, Op as ACall}
-use Rattle.eleos_core.specs.Places.{Owner, all_pages, all_frames, home_of, page_of, sub_of, subs}
+use Rattle.eleos_base.specs.Places.{Owner, all_pages, all_frames, home_of, page_of, sub_of, subs}
 use Rattle.eleos_core.specs.Seals.{Seals}
 use Rattle.eleos_core.specs.State.{History, address_of, bytes, found, frame, frames_of, is_dirty, is_present, last, links, live, owner, places, version}
 use Rattle.eleos_core.specs.Sweeps.{IsTaken, SurveyReply}

@@ -6,7 +6,7 @@ use Rattle.eleos_core.specs.Applying.{stamp_of}
 use Rattle.eleos_core.specs.Cells.{Cells}
 use Rattle.eleos_core.specs.Fills.{the_frame_in}
 use Rattle.eleos_core.specs.Parts.{Stamp, holder_in, owner_in}
-use Rattle.eleos_core.specs.Places.{Owner}
+use Rattle.eleos_base.specs.Places.{Owner}
 
 -- the stamp of a move
 abbrev pub move_stamp : ℕ → ℕ → Owner → Owner → Stamp

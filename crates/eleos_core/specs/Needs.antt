@@ -9,7 +9,7 @@ use Rattle.eleos_core.specs.Applying.{Shows}
 use Rattle.eleos_core.specs.Cells.{Cells}
 use Rattle.eleos_core.specs.Fills.{page_in, sealed_places}
 use Rattle.eleos_core.specs.Legal.{CoreRun, CoreStep}
-use Rattle.eleos_core.specs.Places.{page_of, sub_of}
+use Rattle.eleos_base.specs.Places.{page_of, sub_of}
 use Rattle.eleos_core.specs.Seals.{Seals}
 use Rattle.eleos_core.specs.State.{History, address_of, entry, places}
 

@@ -6,8 +6,8 @@ use Rattle.eleos_base.specs.Plans.{IsCaller}
 use Rattle.eleos_core.specs.Cells.{Cells, links_in}
 use Rattle.eleos_core.specs.Fills.{page_in, the_frame_in}
 use Rattle.eleos_core.specs.Parts.{frame_in, holder_in, owner_in}
-use Rattle.eleos_core.specs.Places as places
-use Rattle.eleos_core.specs.Places.{home_of}
+use Rattle.eleos_base.specs.Places as places
+use Rattle.eleos_base.specs.Places.{home_of}
 
 -- a fill: the page is present, or else the frame holds a page or is not its enclave's
 abbrev pub OffendsFill : Cells → ℕ → ℕ → Offence → Type 0
@@ -19,6 +19,7 @@ OffendsFill m p f _ = ⊥
 abbrev pub IsUnlinked : Cells → ℕ → Type 0
 IsUnlinked m p = (who : ℕ) → IsCaller m.plan who → links_in m who p ≡ 0
 
+-- some caller has a link of the page, so it has to stay in its frame
 abbrev pub IsLinked : Cells → ℕ → Type 0
 IsLinked m p = (who : ℕ) × IsCaller m.plan who × (1 ≤ links_in m who p)
 

@@ -10,8 +10,8 @@ use Rattle.eleos_core.specs.declared.cells.page.Page.{Page}
 use Rattle.eleos_core.specs.declared.cells.sub_page.SubPage.{SubPage}
 use Rattle.eleos_core.specs.Cells.{IsPage, IsUse, part_with, sub_size, subs_per_page}
 use Rattle.eleos_core.specs.Parts.{Part, SubPart, blank_sub, block_in, frame_part, home_of_sub, page_part}
-use Rattle.eleos_core.specs.Places.{frame_counts, subs_of}
-use Rattle.eleos_core.specs.Runs.{run_with}
+use Rattle.eleos_base.specs.Places.{frame_counts, subs_of}
+use Rattle.eleos_base.specs.Runs.{run_with}
 use Rattle.eleos_core.specs.State.{live, opening_frames}
 
 -- an enclave's live blocks with a header block in the lowest free run of so many sub-pages, where there is one
@@ -38,6 +38,7 @@ pages_among blocks count = map (λ p. absent_page (subs_among blocks p)) (range_
 abbrev pub opening_sub : Plan → ℕ → SubPart
 opening_sub k s = record blank_sub { block = block_in k (home_of_sub k s) (live k [] (home_of_sub k s)) s }
 
+-- a page before the first event: in no frame, with sub-pages that were never sealed
 abbrev pub opening_page : Plan → ℕ → Part
 opening_page k p = page_part None (map (opening_sub k) (subs_of k p))
 

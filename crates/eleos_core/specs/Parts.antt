@@ -8,8 +8,9 @@ use Rattle.eleos_base.specs.declared.memory.Live.{Live}
 use Rattle.eleos_base.specs.declared.memory.Op.{Op as Calls}
 use Rattle.eleos_base.specs.declared.memory.Op.TheVariants.{Alloc, Free, Share, Read, Write}
 use Rattle.eleos_base.specs.declared.memory.Reply.{Reply}
-use Rattle.eleos_base.specs.declared.memory.Reply.TheVariants.{Done, Text, Worn, BadRange, NoFrame, Tampered}
+use Rattle.eleos_base.specs.declared.memory.Reply.TheVariants.{Done, Text, Worn, BadRange, NoFrame, Tampered, Short}
 use Rattle.eleos_base.specs.declared.plan.Plan.{Plan}
+use Rattle.eleos_base.specs.declared.plot.Event.{Event as Stamped}
 use Rattle.eleos_base.specs.Lists.{map_from}
 use Rattle.eleos_base.specs.Plans.{enclave_of, sub_bytes}
 use Rattle.eleos_base.specs.Plain as plain
@@ -20,7 +21,7 @@ use Rattle.eleos_core.specs.declared.event.Event.TheVariants.{Op, Link, Unlink, 
 use Rattle.eleos_core.specs.declared.event.Wanted.{Wanted}
 use Rattle.eleos_core.specs.declared.event.Wanted.TheVariants.{Link as ALink, Op as ACall}
 use Rattle.eleos_core.specs.Legal.{ByBlocks, IsPlainly, IsWithin, Judged, judged, failed}
-use Rattle.eleos_core.specs.Places.{Owner, all_frames, all_pages, blank_bytes, first_sub, home_of, page_of, per_page, sub_of, subs, subs_of}
+use Rattle.eleos_base.specs.Places.{Owner, all_frames, all_pages, blank_bytes, first_sub, home_of, page_of, per_page, sub_of, subs, subs_of}
 use Rattle.eleos_core.specs.Seals.{Seals}
 use Rattle.eleos_core.specs.State.{History, address_of, block_for, bytes, evicts, fills, frame, frame_by, frames_by, frames_of, holder, holder_by, is_dirty, is_present, is_sealed, last, live, live_by, owner, owner_by, rewritten, version, writes}
 use Rattle.eleos_core.specs.Sweeps.{IsTaken, SurveyReply}
@@ -35,6 +36,7 @@ pub record SubPart : Type 0 where
   pub is_dirty : Bool
   pub bytes : List ℕ
 
+-- a sub-page in no block, never sealed, clean and without bytes
 abbrev pub blank_sub : SubPart
 blank_sub = record { block = None; version = 0; is_sealed = false; tag = []; is_dirty = false; bytes = [] }
 
@@ -67,19 +69,24 @@ module _ (k : Plan) where
   abbrev pub alloc_cell : ℕ → ℕ
   alloc_cell e = e
 
+  -- the cell of an owner's list of frames: of an enclave, or of the pool, which comes behind the enclaves
   abbrev pub clock_cell : Owner → ℕ
   clock_cell (Some e) = length k.enclaves + e
   clock_cell None = length k.enclaves + length k.enclaves
 
+  -- the pages come behind the cells of enclaves and pool
   abbrev pub page_cell : ℕ → ℕ
   page_cell p = length k.enclaves + length k.enclaves + 1 + p
 
+  -- the frames come behind the pages
   abbrev pub frame_cell : ℕ → ℕ
   frame_cell f = length k.enclaves + length k.enclaves + 1 + all_pages k + f
 
+  -- the cell with a number counted from the first page on: a page, behind the pages a frame, and none behind the frames
   abbrev pub later_cell : ℕ → Cell
   later_cell i = if nat_lt i (all_pages k) then the_page i else if nat_lt (i - all_pages k) (all_frames k) then the_frame (i - all_pages k) else no_cell
 
+  -- which cell has the number, none where there are not so many
   abbrev pub cell_of : ℕ → Cell
   cell_of c = let n = length k.enclaves in
       if nat_lt c n then the_alloc c else if nat_lt (c - n) n then the_clock (Some (c - n)) else if c - n == n then the_clock None else later_cell (c - (n + n + 1))
@@ -96,6 +103,7 @@ module _ (k : Plan) (x : Seals) where
     bytes = if is_present k past s then bytes k x past s else [];
   }
 
+  -- what the history made of a cell, by its kind
   abbrev pub part_of : History → Cell → Part
   part_of past no_cell = no_part
   part_of past (the_alloc e) = alloc_part (live k past e)
@@ -103,6 +111,7 @@ module _ (k : Plan) (x : Seals) where
   part_of past (the_page p) = page_part (frame past p) (map (sub_part past) (subs_of k p))
   part_of past (the_frame f) = frame_part (owner k past f) (holder past f)
 
+  -- what it made of the cell with this number
   abbrev pub part_at : History → ℕ → Part
   part_at past c = part_of past (cell_of k c)
 
@@ -111,22 +120,27 @@ abbrev pub live_in : Part → List Live
 live_in (alloc_part blocks) = blocks
 live_in _ = []
 
+-- the frame that the page is in, none where it is absent
 abbrev pub frame_in : Part → Option ℕ
 frame_in (page_part f us) = f
 frame_in _ = None
 
+-- the sub-pages of a page
 abbrev pub subs_in : Part → List SubPart
 subs_in (page_part f us) = us
 subs_in _ = []
 
+-- the page in a frame, none where the frame is free
 abbrev pub holder_in : Part → Option ℕ
 holder_in (frame_part owner p) = p
 holder_in _ = None
 
+-- who owns a frame, none where it is the pool's
 abbrev pub owner_in : Part → Owner
 owner_in (frame_part owner p) = owner
 owner_in _ = None
 
+-- the frames of an owner in order
 abbrev pub list_in : Part → List ℕ
 list_in (clock_part fs) = fs
 list_in _ = []
@@ -135,6 +149,14 @@ list_in _ = []
 pub record Stamp : Type 0 where
   pub entry : Entry
   pub len : ℕ
+
+-- a stamped entry, with its place in the history
+abbrev pub Made : Type 0
+Made = ℕ × Stamp
+
+-- a turnstile's history of the machine, the first entry first
+abbrev pub Entries : Type 0
+Entries = List (Stamped Stamp Part)
 
 -- the pages that a run of sub-pages touches
 abbrev pub pages_of_run : Plan → ℕ → ℕ → List ℕ
@@ -194,6 +216,11 @@ module _ (k : Plan) where
   call_foot who (Read at n) reply len = access_foot who at n
   call_foot who (Write at new) reply len = access_foot who at (length new)
 
+  -- the clock cell of a survey's enclave, and the pool's where the answer speaks of its frames
+  abbrev pub survey_foot : ℕ → Reply → List ℕ
+  survey_foot e (Short share) = clock_cell k (Some e) ∷ clock_cell k None ∷ []
+  survey_foot e reply = clock_cell k (Some e) ∷ []
+
   -- the cells that an event touches
   abbrev pub foot_of : ℕ → Event → Reply → ℕ → List ℕ
   foot_of who (Op op) reply len = call_foot who op reply len
@@ -204,8 +231,9 @@ module _ (k : Plan) where
   foot_of who (Move f from to) reply len = frame_cell k f ∷ clock_cell k from ∷ clock_cell k to ∷ []
   foot_of who (Starved wanted sweep) reply len = let p = page_of k (sub_of k (address_of wanted)) in page_cell k p ∷ clock_cell k (home_of k p) ∷ []
   foot_of who (Spoiled wanted) reply len = page_cell k (page_of k (sub_of k (address_of wanted))) ∷ []
-  foot_of who (Survey e goal sweep) reply len = clock_cell k (Some e) ∷ clock_cell k None ∷ []
+  foot_of who (Survey e goal sweep) reply len = survey_foot e reply
 
+  -- the cells that an entry touches when it is made
   abbrev pub foot : Stamp → List ℕ
   foot d = foot_of d.entry.who d.entry.event d.entry.reply d.len
 
@@ -217,6 +245,7 @@ module _ (k : Plan) where
   abbrev pub access_places_in : ℕ → Option ℕ → List SubPart → List ℕ
   access_places_in s f us = if is_some f then [] else if (sub_in us s).is_sealed then s ∷ [] else []
 
+  -- the places whose blocks an event takes: an access at most one, a fill or a spoiled page all that are sealed
   abbrev pub places_in : Event → Option ℕ → List SubPart → List ℕ
   places_in (Op (Read at n)) f us = access_places_in (sub_of k at) f us
   places_in (Op (Write at new)) f us = access_places_in (sub_of k at) f us
@@ -232,6 +261,7 @@ module _ (k : Plan) where
   abbrev pub refusal_in : ℕ → Addr → ℕ → Option Live → Option Reply
   refusal_in who at n block = let e = enclave_of k who in if is_in_range (sub_bytes k e) e (subs k e) at n then use_refusal who block else Some BadRange
 
+  -- why what was wanted is refused at once; a link is judged as an access of one byte
   abbrev pub wanted_refusal_in : ℕ → Wanted → Option Live → Option Reply
   wanted_refusal_in who (ALink at) block = refusal_in who at 1 block
   wanted_refusal_in who (ACall (Read at n)) block = refusal_in who at n block

@@ -15,7 +15,7 @@ use Rattle.eleos_core.specs.Cells.{Cells}
 use Rattle.eleos_core.specs.Fills.{sealed_places}
 use Rattle.eleos_core.specs.Legal.{Judged, NeedsFrame, failed, passed}
 use Rattle.eleos_core.specs.Parts.{Part, Stamp, block_at, clock_cell, frame_in, list_in, passes_in, subs_in, verdict_in, wanted_refusal_in}
-use Rattle.eleos_core.specs.Places.{Owner, home_of, page_of, sub_of}
+use Rattle.eleos_base.specs.Places.{Owner, home_of, page_of, sub_of}
 use Rattle.eleos_core.specs.Seals.{Seals}
 use Rattle.eleos_core.specs.State.{address_of}
 use Rattle.eleos_core.specs.Surveys.{IsTheReply}
@@ -32,9 +32,11 @@ IsQuiet _ = ⊥
 abbrev pub starved_stamp : ℕ → Wanted → List Looked → Reply → Stamp
 starved_stamp who wanted sweep reply = stamp_of who (Starved wanted sweep) [] reply 0
 
+-- of a link or an access that a bad block of its page stops, with the blocks that came
 abbrev pub spoiled_stamp : ℕ → Wanted → List (List ℕ) → Reply → Stamp
 spoiled_stamp who wanted blocks reply = stamp_of who (SpoiledPage wanted) blocks reply 0
 
+-- of the end of a search among the frames of an enclave, for which no block comes
 abbrev pub survey_stamp : ℕ → ℕ → Goal → List Looked → Reply → Stamp
 survey_stamp who e goal sweep reply = stamp_of who (Survey e goal sweep) [] reply 0
 
@@ -52,6 +54,7 @@ module _ (m : Cells) where
   abbrev pub wanted_page : Wanted → ℕ
   wanted_page wanted = page_of m.plan (sub_of m.plan (address_of wanted))
 
+  -- what the cells have of that page
   abbrev pub wanted_part : Wanted → Part
   wanted_part wanted = page_for m (address_of wanted)
 

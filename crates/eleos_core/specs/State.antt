@@ -15,14 +15,15 @@ use Rattle.eleos_core.specs.declared.event.Event.{Event}
 use Rattle.eleos_core.specs.declared.event.Event.TheVariants.{Op, Link, Unlink, Fill, Evict, Move, Starved, Spoiled}
 use Rattle.eleos_core.specs.declared.event.Wanted.{Wanted}
 use Rattle.eleos_core.specs.declared.event.Wanted.TheVariants.{Link as ALink, Op as ACall}
-use Rattle.eleos_core.specs.Runs.{first_of_run, run_with}
-use Rattle.eleos_core.specs.Places.{Owner, frame_counts, first_sub, is_sub_of, sub_of, page_of, subs_of, all_subs, blank_bytes}
+use Rattle.eleos_base.specs.Runs.{first_of_run, run_with}
+use Rattle.eleos_base.specs.Places.{Owner, frame_counts, first_sub, is_sub_of, sub_of, page_of, subs_of, all_subs, blank_bytes}
 use Rattle.eleos_core.specs.Seals.{Seals}
 
 -- entries, the last one first
 abbrev pub History : Type 0
 History = List Entry
 
+-- what an actor did: the event, the blocks that came from the host for it, and the reply
 abbrev pub entry : ℕ → Event → List (List ℕ) → Reply → Entry
 entry who event blocks reply = record { who = who; event = event; blocks = blocks; reply = reply }
 
@@ -34,6 +35,7 @@ call_address (Share at) = at
 call_address (Read at n) = at
 call_address (Write at bytes) = at
 
+-- where the link or the call was wanted
 abbrev pub address_of : Wanted → Addr
 address_of (ALink at) = at
 address_of (ACall op) = call_address op
@@ -42,16 +44,19 @@ address_of (ACall op) = call_address op
 abbrev pub call : ℕ → Calls → Reply → List Call
 call who op reply = record { who = who; op = op; reply = reply } ∷ []
 
+-- the call that was wanted, none where it was a link
 abbrev pub call_wanted : ℕ → Wanted → Reply → List Call
 call_wanted who (ALink at) reply = []
 call_wanted who (ACall op) reply = call who op reply
 
+-- the call that an event answers: its own, or the one that was wanted; none where it is no call
 abbrev pub call_of : ℕ → Event → Reply → List Call
 call_of who (Op op) reply = call who op reply
 call_of who (Starved wanted sweep) reply = call_wanted who wanted reply
 call_of who (Spoiled wanted) reply = call_wanted who wanted reply
 call_of who _ reply = []
 
+-- all calls of a history with their replies, the oldest first
 abbrev pub calls : History → List Call
 calls [] = []
 calls (e ∷ past) = calls past ++ call_of e.who e.event e.reply
@@ -68,6 +73,7 @@ holder_by (Fill p g) reply f was = if is_accepted reply && f == g then Some p el
 holder_by (Evict p g) reply f was = if f == g then None else was
 holder_by _ reply f was = was
 
+-- the page that a history left in the frame; at first there is none
 abbrev pub holder : History → ℕ → Option ℕ
 holder [] f = None
 holder (e ∷ past) f = holder_by e.event e.reply f (holder past f)
@@ -78,6 +84,7 @@ frame_by (Fill q f) reply p was = if is_accepted reply && p == q then Some f els
 frame_by (Evict q f) reply p was = if p == q then None else was
 frame_by _ reply p was = was
 
+-- the frame in which a history left the page; at first there is none
 abbrev pub frame : History → ℕ → Option ℕ
 frame [] p = None
 frame (e ∷ past) p = frame_by e.event e.reply p (frame past p)
@@ -98,6 +105,7 @@ module _ (k : Plan) where
   live_by e who (Op op) reply blocks = if e == enclave_of k who then blocks_after (sub_bytes k e) e who op reply blocks else blocks
   live_by e who _ reply blocks = blocks
 
+  -- an enclave's live blocks after the history, from the plan's header blocks on
   abbrev pub live : History → ℕ → List Live
   live [] e = (memory_of (opening k) e).blocks
   live (x ∷ past) e = live_by e x.who x.event x.reply (live past e)
@@ -112,6 +120,7 @@ module _ (k : Plan) where
   opening_frames (Some e) = range_with_len (first_of_run (frame_counts k) e) (slice_index (frame_counts k) e)
   opening_frames None = range_with_len (first_of_run (frame_counts k) (length (frame_counts k))) k.spare
 
+  -- an owner's frames after the history: those of its run at first, then as moves bring and take them
   abbrev pub frames_of : History → Owner → List ℕ
   frames_of [] owner = opening_frames owner
   frames_of (e ∷ past) owner = frames_by owner e.event (frames_of past owner)
@@ -168,6 +177,7 @@ module _ (k : Plan) where
   abbrev pub access_places : History → ℕ → List ℕ
   access_places past s = if is_present past s then [] else filter (is_sealed past) (s ∷ [])
 
+  -- the places of the page's sealed sub-pages, whose blocks a fill takes from the host
   abbrev pub page_places : History → ℕ → List ℕ
   page_places past p = filter (is_sealed past) (subs_of k p)
 
@@ -185,6 +195,7 @@ module _ (k : Plan) where
   links_by who (Unlink q) reply by p was = if by == who && p == q then was - 1 else was
   links_by who _ reply by p was = was
 
+  -- how many links of the page the caller has after the history: an accepted link is one more, an unlink one less
   abbrev pub links : History → ℕ → ℕ → ℕ
   links [] by p = 0
   links (e ∷ past) by p = links_by e.who e.event e.reply by p (links past by p)
@@ -225,6 +236,7 @@ module _ (k : Plan) (x : Seals) where
 abbrev pub sealings_of : Plan → Entry → History → List (ℕ × ℕ)
 sealings_of k e past = map (λ s. (s, version k past s + 1)) (filter (is_sealing k e past) (all_subs k))
 
+-- all sealings of a history, those of the oldest entry first
 abbrev pub sealings : Plan → History → List (ℕ × ℕ)
 sealings k [] = []
 sealings k (e ∷ past) = sealings k past ++ sealings_of k e past

@@ -7,24 +7,28 @@ ghost use Rattle.eleos_core.specs.Applying.{Makes, parts_in, put_of, puts_in};
 ghost use Rattle.eleos_core.specs.Cells.{sub_size};
 ghost use Rattle.eleos_core.specs.Seals.{seals_by};
 
-mod openings;
 mod pages;
 mod places;
+mod reads;
 mod refusals;
 mod spots;
+mod writes;
 
 use crate::accesses::pages::{read_page, write_page};
-use crate::accesses::refusals::{is_worn, use_refusal};
+use crate::accesses::refusals::refusal_reply;
 use crate::event::{Block, Event};
 use crate::machine::{Core, Effect};
 use eleos_base::{Addr, NoMemory, Op, Reply, Sealer};
 pub use pages::only_reply;
+pub use reads::{read_absent, read_present};
+pub use refusals::{use_refusal, write_refusal};
 pub use spots::{Spot, is_in_range, spot_of};
 use std::alloc::Global;
+pub use writes::{write_absent, write_present};
 
 impl Core {
     /// Why the caller may not access so many bytes at the address.
-    pub fn access_refusal(&self, who: u32, at: Addr, len: usize) -> Option<Reply>
+    pub(crate) fn access_refusal(&self, who: u32, at: Addr, len: usize) -> Option<Reply>
         requires { IsCaller self.now.plan who }
         ensures { result ≡ refusal_on self.now who at len }
     {
@@ -34,11 +38,14 @@ impl Core {
         }
         let spot = spot_of(&self.plan, at);
         let page = &self.pages[spot.page as usize];
-        use_refusal(who, page.subs[spot.index].block)
+        match use_refusal(who, page.subs[spot.index].block) {
+            Some(refused) => Some(refusal_reply(refused)),
+            None => None,
+        }
     }
 
     /// Answers a read. Nothing changes.
-    pub fn read<S: Sealer>(
+    pub(crate) fn read<S: Sealer>(
         &self,
         alloc: Global,
         sealer: &S,
@@ -64,7 +71,7 @@ impl Core {
 
     /// Answers a write, with the block for the host where the page is absent.
     /// After want of memory nothing has changed.
-    pub fn write<S: Sealer>(
+    pub(crate) fn write<S: Sealer>(
         &mut self,
         alloc: Global,
         sealer: &S,

@@ -10,23 +10,20 @@ mod marks;
 use crate::allots::lists::{lowest_in, owned_in, put_in, share_in, take_from};
 use crate::allots::marks::mark_run;
 use crate::machine::Core;
-use eleos_base::{Addr, Live, NoMemory, Op, Reply, SUB_BYTES};
+use eleos_base::{Addr, Live, MOST_BLOCK_BYTES, NoMemory, Op, Reply, SUB_BYTES};
 pub use homes::{enclave_of, first_sub, subs_of};
 pub use marks::{Mark, mark_sub};
-
-/// Most bytes of a block.
-pub const MOST_BYTES: u32 = 65_536;
 
 impl Core {
     /// Allocates a block of so many bytes in the lowest free run of the caller's enclave, and
     /// answers its address, or `BadSize` or `NoSpace`. After want of memory nothing has changed.
-    pub fn alloc(&mut self, who: u32, bytes: u32) -> Result<Reply, NoMemory>
+    pub(crate) fn alloc(&mut self, who: u32, bytes: u32) -> Result<Reply, NoMemory>
         requires caller { IsCaller self.old.plan who }
         ensures makes { IfOk result (λ reply.
             Allots self.old who (Op.Alloc bytes) reply self.new) }
         ensures err { OnErr result (self.new ≡ self.old) }
     {
-        if bytes == 0 || bytes > MOST_BYTES {
+        if bytes == 0 || bytes > MOST_BLOCK_BYTES {
             return Ok(Reply::BadSize);
         }
         let enclave = enclave_of(&self.plan, who);
@@ -51,7 +48,7 @@ impl Core {
     }
 
     /// Frees the caller's block that starts at the address, or answers why it may not be freed.
-    pub fn free(&mut self, who: u32, at: Addr) -> Reply
+    pub(crate) fn free(&mut self, who: u32, at: Addr) -> Reply
         requires caller { IsCaller self.old.plan who }
         ensures makes { Allots self.old who (Op.Free at) result self.new }
     {
@@ -68,7 +65,7 @@ impl Core {
 
     /// Shares the caller's block that starts at the address with all callers of its enclave, or
     /// answers why it may not be shared.
-    pub fn share(&mut self, who: u32, at: Addr) -> Reply
+    pub(crate) fn share(&mut self, who: u32, at: Addr) -> Reply
         requires caller { IsCaller self.old.plan who }
         ensures makes { Allots self.old who (Op.Share at) result self.new }
     {

@@ -4,6 +4,7 @@ ghost use Rattle.eleos_core.specs.Accesses.{AreBlocks};
 ghost use Rattle.eleos_core.specs.Applying.{AlwaysApplies, AlwaysIllegal};
 ghost use Rattle.eleos_core.specs.Cells.{sub_size};
 ghost use Rattle.eleos_core.specs.Legal.{IsWithin};
+ghost use Rattle.eleos_core.specs.Memory.{MayWantMemory};
 ghost use Rattle.eleos_core.specs.Needs.{needed};
 ghost use Rattle.eleos_core.specs.Seals.{seals_by};
 ghost use Rattle.eleos_base.specs.declared.memory.Part.{Part as Offence};
@@ -24,9 +25,8 @@ impl Core {
     /// Applies an event: exactly the machine's step, whatever legal history it is after.
     ///
     /// `blocks` are those of the places that `need` answers, in the same order. After Illegal
-    /// and after want of memory nothing has changed. Illegal comes before want of memory for
-    /// calls, links, unlinks, fills, evicts and moves; judging Starved, Spoiled and Survey may
-    /// itself want memory.
+    /// and after want of memory nothing has changed. Want of memory comes only where an entry of
+    /// the event is legal.
     pub fn apply<S: Sealer>(
         &mut self,
         alloc: Global,
@@ -44,6 +44,8 @@ impl Core {
             All (λ put. length put.block ≡ sub_size) effect.puts) }
         ensures illegal { (part : Offence) → result ≡ Err (ApplyRefused.Illegal part)
             → AlwaysIllegal (seals_by (S.key sealer.now)) self.old who event.now blocks.now part }
+        ensures memory { result ≡ Err ApplyRefused.NoMemory
+            → MayWantMemory self.old who event.now }
         ensures err { OnErr result (self.new ≡ self.old) }
     {
         match event {

@@ -8,7 +8,7 @@ ghost use Rattle.eleos_core.specs.Fills.{page_in};
 ghost use Rattle.eleos_core.specs.Legal.{IsActor};
 ghost use Rattle.eleos_core.specs.Offences.{CanEvictIn, IsLinked, IsUnlinked, OffendsEvict};
 ghost use Rattle.eleos_core.specs.Parts.{frame_in};
-ghost use Rattle.eleos_core.specs.Places.{all_frames, all_pages};
+ghost use Rattle.eleos_base.specs.Places.{all_frames, all_pages};
 ghost use Rattle.eleos_core.specs.Seals.{seals_by};
 
 mod sealing;
@@ -23,7 +23,7 @@ use std::alloc::Global;
 impl Core {
     /// The page leaves the frame, which is free again.
     /// Each dirty sub-page is sealed, and its block goes to the host.
-    pub fn evict<S: Sealer>(
+    pub(crate) fn evict<S: Sealer>(
         &mut self,
         alloc: Global,
         sealer: &S,
@@ -48,7 +48,7 @@ impl Core {
     }
 
     /// What an evict of the page from the frame would offend against.
-    pub fn evict_offence(&self, page: u32, frame: u32) -> Option<Part>
+    pub(crate) fn evict_offence(&self, page: u32, frame: u32) -> Option<Part>
         requires { page < all_pages self.now.plan }
         ensures { MatchOption result (CanEvictIn self.now page frame)
             (OffendsEvict self.now page frame) }

@@ -4,7 +4,7 @@ ghost use Rattle.eleos_base.specs.Plain.{zeros};
 ghost use Rattle.eleos_base.specs.Plans.{page_bytes};
 ghost use Rattle.eleos_core.specs.Cells.{frame_of_page, holder_of_use};
 ghost use Rattle.eleos_core.specs.Fills.{IsFree};
-ghost use Rattle.eleos_core.specs.Places.{home_of};
+ghost use Rattle.eleos_base.specs.Places.{home_of};
 
 use crate::cells::{Frame, Page, Use};
 use eleos_base::Plan;

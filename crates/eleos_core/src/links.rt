@@ -5,7 +5,7 @@ ghost use Rattle.eleos_base.specs.Plans.{IsCaller};
 ghost use Rattle.eleos_core.specs.Accesses.{link_stamp, may_link, unlink_stamp};
 ghost use Rattle.eleos_core.specs.Applying.{Makes};
 ghost use Rattle.eleos_core.specs.Cells.{links_in};
-ghost use Rattle.eleos_core.specs.Places.{all_pages, page_of, sub_of};
+ghost use Rattle.eleos_base.specs.Places.{all_pages, page_of, sub_of};
 ghost use Rattle.eleos_core.specs.Seals.{Seals};
 
 use crate::accesses::spot_of;
@@ -15,7 +15,7 @@ use eleos_base::{Addr, NoMemory, Part, Reply};
 impl Core {
     /// What a link at the address offends against, where it is not legal: it is not refused, and
     /// the page is absent.
-    pub fn link_offence(&self, who: u32, at: Addr) -> Option<Part>
+    pub(crate) fn link_offence(&self, who: u32, at: Addr) -> Option<Part>
         requires { IsCaller self.now.plan who }
         ensures { result ≡ (if may_link self.now who at then None else Some Part.Absent) }
     {
@@ -33,7 +33,7 @@ impl Core {
 
     /// Links the page of the address once more for the caller. A caller that has 2^64 - 1 links of
     /// it gets want of memory, after which nothing has changed.
-    pub fn link(&mut self, who: u32, at: Addr) -> Result<Reply, NoMemory>
+    pub(crate) fn link(&mut self, who: u32, at: Addr) -> Result<Reply, NoMemory>
         requires caller { IsCaller self.old.plan who }
         requires legal { IsTrue (may_link self.old who at) }
         ensures makes { (x : Seals)
@@ -56,7 +56,7 @@ impl Core {
     }
 
     /// What an unlink offends against, where it is not legal: the caller has no link of the page.
-    pub fn unlink_offence(&self, who: u32, page: u32) -> Option<Part>
+    pub(crate) fn unlink_offence(&self, who: u32, page: u32) -> Option<Part>
         requires caller { IsCaller self.now.plan who }
         requires page { page < all_pages self.now.plan }
         ensures { result
@@ -71,7 +71,7 @@ impl Core {
     }
 
     /// Takes one of the caller's links from the page.
-    pub fn unlink(&mut self, who: u32, page: u32) -> Reply
+    pub(crate) fn unlink(&mut self, who: u32, page: u32) -> Reply
         requires caller { IsCaller self.old.plan who }
         requires page { page < all_pages self.old.plan }
         requires linked { 1 ≤ links_in self.old who page }

@@ -47,7 +47,8 @@ pub struct Core {
     pub(crate) clocks: Vec<Clock>,
     pub(crate) pages: Vec<Page>,
     pub(crate) frames: Vec<Frame>,
-    /// The links of each caller on each page: all pages of caller 1, then those of caller 2, and so on.
+    /// The links of each caller on each page: all pages of caller 1, then those of caller 2, and so
+    /// on.
     pub(crate) links: Vec<u64>,
 }
 

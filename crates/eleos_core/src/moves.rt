@@ -6,7 +6,7 @@ ghost use Rattle.eleos_core.specs.Legal.{IsActor, IsOwner, OneIsPool};
 ghost use Rattle.eleos_core.specs.Moves.{CanMoveIn, move_stamp};
 ghost use Rattle.eleos_core.specs.Offences.{OffendsMove};
 ghost use Rattle.eleos_core.specs.Parts.{clock_cell};
-ghost use Rattle.eleos_core.specs.Places.{all_frames};
+ghost use Rattle.eleos_base.specs.Places.{all_frames};
 ghost use Rattle.eleos_core.specs.Seals.{Seals};
 
 use crate::cells::Clock;
@@ -16,7 +16,7 @@ use eleos_base::{NoMemory, Part, Plan};
 
 impl Core {
     /// The frame leaves its owner's list, where the gap closes, and goes last in the other's.
-    pub fn move_frame(
+    pub(crate) fn move_frame(
         &mut self,
         frame: u32,
         from: Option<u16>,
@@ -40,7 +40,7 @@ impl Core {
     }
 
     /// What a move of the frame from this owner would offend against.
-    pub fn move_offence(&self, frame: u32, from: Option<u16>) -> Option<Part>
+    pub(crate) fn move_offence(&self, frame: u32, from: Option<u16>) -> Option<Part>
         requires { frame < all_frames self.now.plan }
         ensures { MatchOption result (CanMoveIn self.now frame from)
             (OffendsMove self.now frame from) }

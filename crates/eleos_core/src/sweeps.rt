@@ -1,8 +1,8 @@
 // Searches among frames: what a sweep saw of them.
-ghost use Rattle.std.specs.Prelude.{◌≡◌, ◌↔◌, IfOk, IsTrue};
+ghost use Rattle.std.specs.Prelude.{◌≡◌, ◌↔◌, IsTrue};
 ghost use Rattle.std.specs.List.{list_all};
 ghost use Rattle.eleos_base.specs.Words.{is_taken};
-ghost use Rattle.eleos_core.specs.Sweeps.{IsTaken, frames_in};
+ghost use Rattle.eleos_core.specs.Sweeps.{IsTaken};
 
 mod lists;
 mod quiet;
@@ -10,31 +10,18 @@ mod surveys;
 mod waiting;
 
 use crate::sweeps::lists::are_same;
-use eleos_base::{CellWord, Looked, NoMemory};
-use std::alloc::Global;
+use eleos_base::{CellWord, Looked};
 pub use surveys::survey_reply;
 pub use waiting::address_of;
 
-/// The frames that the sweep names.
-fn frames_in(alloc: Global, sweep: &[Looked]) -> Result<Vec<u32>, NoMemory>
-    ensures { IfOk result (λ frames. frames.items ≡ frames_in sweep.now) }
-{
-    let mut frames = Vec::new(alloc);
-    for seen in sweep {
-        frames.push(seen.frame)?;
-    }
-    Ok(frames)
-}
-
 /// The sweep names just these frames, each once, and saw pins or BUSY on each.
-pub fn is_all_taken(alloc: Global, sweep: &[Looked], frames: &[u32]) -> Result<bool, NoMemory>
-    ensures { IfOk result (λ yes. IsTrue yes ↔ IsTaken sweep.now frames.now) }
+pub fn is_all_taken(sweep: &[Looked], frames: &[u32]) -> bool
+    ensures { IsTrue result ↔ IsTaken sweep.now frames.now }
 {
     if !are_taken(sweep) {
-        return Ok(false);
+        return false;
     }
-    let named = frames_in(alloc, sweep)?;
-    are_same(alloc, &named, frames)
+    are_same(sweep, frames)
 }
 
 /// Pins or BUSY were seen on each.

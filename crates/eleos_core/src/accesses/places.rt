@@ -15,7 +15,7 @@ use eleos_base::{Addr, Op};
 impl Core {
     /// The place whose block the event takes as an access: that of a sealed sub-page of an absent
     /// page. There is none where the access is refused or worn.
-    pub fn places_of_access(&self, who: u32, event: &Event) -> Option<u32>
+    pub(crate) fn places_of_access(&self, who: u32, event: &Event) -> Option<u32>
         requires { IsWithin self.now.plan who event.now }
         ensures { option_to_list result ≡ taken_places self.now who event.now }
     {

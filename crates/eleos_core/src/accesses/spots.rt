@@ -3,10 +3,9 @@ ghost use Rattle.std.specs.Prelude.{◌≡◌, ◌<◌, ◌≤◌, length};
 ghost use Rattle.eleos_base.specs.Plain.{is_in_range};
 ghost use Rattle.eleos_base.specs.Plans.{IsGood, sub_bytes};
 ghost use Rattle.eleos_core.specs.Accesses.{IsSpot};
-ghost use Rattle.eleos_core.specs.Places.{page_counts, subs};
-ghost use Rattle.eleos_core.specs.Runs.{first_of_run};
+ghost use Rattle.eleos_base.specs.Places.{subs};
 
-use eleos_base::{Addr, Plan, SUB_BYTES, SUBS_PER_PAGE};
+use eleos_base::{Addr, Plan, SUB_BYTES, SUBS_PER_PAGE, first_page};
 
 /// Where an address lies.
 #[derive(Clone, Copy, Debug, PartialEq, Eq)]
@@ -33,21 +32,6 @@ pub fn spot_of(plan: &Plan, at: Addr) -> Spot
         index: (place % SUBS_PER_PAGE) as usize,
         from: (at.at % SUB_BYTES) as usize,
     }
-}
-
-/// The number of the enclave's first page.
-fn first_page(plan: &Plan, enclave: u16) -> u32
-    requires good { IsGood plan.now }
-    requires enclave { enclave < length plan.now.enclaves }
-    ensures first { result ≡ first_of_run (page_counts plan.now) enclave }
-    ensures within { result ≤ 4096 }
-{
-    let mut first = 0;
-    let before = &plan.enclaves.as_slice()[..enclave as usize];
-    for made in before {
-        first += made.pages;
-    }
-    first
 }
 
 /// So many bytes from the address on lie in one sub-page of the enclave.

@@ -15,7 +15,7 @@ use std::alloc::Global;
 
 impl Core {
     /// Applies a call on memory, which is never illegal. After want of memory nothing has changed.
-    pub fn apply_call<S: Sealer>(
+    pub(crate) fn apply_call<S: Sealer>(
         &mut self,
         alloc: Global,
         sealer: &S,

@@ -6,7 +6,8 @@ ghost use Rattle.eleos_core.specs.Applying.{AlwaysApplies, AlwaysIllegal};
 ghost use Rattle.eleos_core.specs.Cells.{sub_size};
 ghost use Rattle.eleos_core.specs.Fills.{page_in, sealed_places};
 ghost use Rattle.eleos_core.specs.Legal.{IsActor, IsOwner, OneIsPool};
-ghost use Rattle.eleos_core.specs.Places.{all_frames, all_pages};
+ghost use Rattle.eleos_base.specs.Places.{all_frames, all_pages};
+ghost use Rattle.eleos_core.specs.Memory.{MayWantMemory};
 ghost use Rattle.eleos_core.specs.Seals.{Seals, seals_by};
 
 use crate::accesses::only_reply;
@@ -18,7 +19,7 @@ use std::alloc::Global;
 impl Core {
     /// Puts the page into the frame, where that is legal, with what its blocks open to.
     /// There is a block for each of its sealed sub-pages, in rising order of place.
-    pub fn apply_fill<S: Sealer>(
+    pub(crate) fn apply_fill<S: Sealer>(
         &mut self,
         alloc: Global,
         sealer: &S,
@@ -38,6 +39,8 @@ impl Core {
             → AlwaysIllegal (seals_by (S.key sealer.now)) self.old who (Event.Fill page frame)
             blocks.now part }
         ensures err { OnErr result (self.new ≡ self.old) }
+        ensures memory { (who : ℕ) → result ≡ Err ApplyRefused.NoMemory
+            → MayWantMemory self.old who (Event.Fill page frame) }
     {
         if let Some(part) = self.fill_offence(page, frame) {
             return Err(ApplyRefused::Illegal { part });
@@ -48,7 +51,7 @@ impl Core {
 
     /// Takes the page out of the frame, where that is legal.
     /// The blocks of its dirty sub-pages go to the host.
-    pub fn apply_evict<S: Sealer>(
+    pub(crate) fn apply_evict<S: Sealer>(
         &mut self,
         alloc: Global,
         sealer: &S,
@@ -66,6 +69,8 @@ impl Core {
             → AlwaysIllegal (seals_by (S.key sealer.now)) self.old who (Event.Evict page frame)
             [] part }
         ensures err { OnErr result (self.new ≡ self.old) }
+        ensures memory { (who : ℕ) → result ≡ Err ApplyRefused.NoMemory
+            → MayWantMemory self.old who (Event.Evict page frame) }
     {
         if let Some(part) = self.evict_offence(page, frame) {
             return Err(ApplyRefused::Illegal { part });
@@ -78,7 +83,7 @@ impl Core {
     }
 
     /// Moves the free frame from one owner to the other, where that is legal.
-    pub fn apply_move(
+    pub(crate) fn apply_move(
         &mut self,
         alloc: Global,
         frame: u32,
@@ -98,6 +103,8 @@ impl Core {
             → result ≡ Err (ApplyRefused.Illegal part)
             → AlwaysIllegal x self.old who (Event.Move frame from to) [] part }
         ensures err { OnErr result (self.new ≡ self.old) }
+        ensures memory { (who : ℕ) → result ≡ Err ApplyRefused.NoMemory
+            → MayWantMemory self.old who (Event.Move frame from to) }
     {
         if let Some(part) = self.move_offence(frame, from) {
             return Err(ApplyRefused::Illegal { part });

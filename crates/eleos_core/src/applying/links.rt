@@ -3,7 +3,8 @@ ghost use Rattle.std.specs.Prelude.{◌≡◌, ◌<◌, [], length, All, Err, If
 ghost use Rattle.eleos_base.specs.Plans.{IsCaller};
 ghost use Rattle.eleos_core.specs.Applying.{AlwaysApplies, AlwaysIllegal};
 ghost use Rattle.eleos_core.specs.Cells.{sub_size};
-ghost use Rattle.eleos_core.specs.Places.{all_pages};
+ghost use Rattle.eleos_base.specs.Places.{all_pages};
+ghost use Rattle.eleos_core.specs.Memory.{MayWantMemory};
 ghost use Rattle.eleos_core.specs.Seals.{Seals};
 
 use crate::accesses::only_reply;
@@ -14,7 +15,12 @@ use std::alloc::Global;
 
 impl Core {
     /// Applies a link, to which no blocks are given.
-    pub fn apply_link(&mut self, alloc: Global, who: u32, at: Addr) -> Result<Effect, ApplyRefused>
+    pub(crate) fn apply_link(
+        &mut self,
+        alloc: Global,
+        who: u32,
+        at: Addr,
+    ) -> Result<Effect, ApplyRefused>
         requires within { IsCaller self.old.plan who }
         ensures applied { (x : Seals) → IfOk result (λ effect.
             AlwaysApplies x self.old who (Event.Link at) [] effect.reply effect.puts self.new) }
@@ -23,6 +29,8 @@ impl Core {
         ensures illegal { (x : Seals) (part : Part) → result ≡ Err (ApplyRefused.Illegal part)
             → AlwaysIllegal x self.old who (Event.Link at) [] part }
         ensures err { OnErr result (self.new ≡ self.old) }
+        ensures memory { result ≡ Err ApplyRefused.NoMemory
+            → MayWantMemory self.old who (Event.Link at) }
     {
         if let Some(part) = self.link_offence(who, at) {
             return Err(ApplyRefused::Illegal { part });
@@ -32,7 +40,7 @@ impl Core {
     }
 
     /// Applies an unlink, to which no blocks are given.
-    pub fn apply_unlink(
+    pub(crate) fn apply_unlink(
         &mut self,
         alloc: Global,
         who: u32,
@@ -48,6 +56,8 @@ impl Core {
         ensures illegal { (x : Seals) (part : Part) → result ≡ Err (ApplyRefused.Illegal part)
             → AlwaysIllegal x self.old who (Event.Unlink page) [] part }
         ensures err { OnErr result (self.new ≡ self.old) }
+        ensures memory { result ≡ Err ApplyRefused.NoMemory
+            → MayWantMemory self.old who (Event.Unlink page) }
     {
         if let Some(part) = self.unlink_offence(who, page) {
             return Err(ApplyRefused::Illegal { part });

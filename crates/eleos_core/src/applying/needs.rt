@@ -7,7 +7,7 @@ ghost use Rattle.eleos_core.specs.Quiet.{wanted_page, wanted_part};
 ghost use Rattle.eleos_core.specs.Accesses.{taken_places};
 ghost use Rattle.eleos_core.specs.Legal.{IsWithin};
 ghost use Rattle.eleos_core.specs.Needs.{AlwaysCovers, needed};
-ghost use Rattle.eleos_core.specs.Places.{all_pages};
+ghost use Rattle.eleos_base.specs.Places.{all_pages};
 
 use crate::accesses::spot_of;
 use crate::cells::SubPage;
@@ -39,7 +39,7 @@ impl Model for Places {
 
 impl Places {
     /// None.
-    pub fn none() -> Self
+    pub(crate) fn none() -> Self
         ensures { result ≡ [] }
     {
         Places {
@@ -64,7 +64,8 @@ impl Places {
     }
 }
 
-/// The places of the sealed ones among a page's sub-pages, the first of which has the number `first`.
+/// The places of the sealed ones among a page's sub-pages, the first of which has the number
+/// `first`.
 fn sealed_among(subs: &[SubPage], first: u32) -> Places
     requires few { length subs.now ≤ subs_per_page }
     requires first { first + subs_per_page < 2 ^ 32 }

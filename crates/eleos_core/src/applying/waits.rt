@@ -7,6 +7,7 @@ ghost use Rattle.eleos_core.specs.Applying.{AlwaysApplies, AlwaysIllegal};
 ghost use Rattle.eleos_core.specs.Cells.{sub_size};
 ghost use Rattle.eleos_core.specs.Legal.{IsActor};
 ghost use Rattle.eleos_core.specs.Quiet.{wanted_places};
+ghost use Rattle.eleos_core.specs.Memory.{MayWantMemory};
 ghost use Rattle.eleos_core.specs.Seals.{Seals, seals_by};
 
 use crate::accesses::only_reply;
@@ -17,7 +18,7 @@ use std::alloc::Global;
 
 impl Core {
     /// Refuses what waits for a frame, where the sweep saw that none can be had.
-    pub fn apply_starved(
+    pub(crate) fn apply_starved(
         &self,
         alloc: Global,
         who: u32,
@@ -32,8 +33,10 @@ impl Core {
             All (λ put. length put.block ≡ sub_size) effect.puts) }
         ensures illegal { (x : Seals) (part : Offence) → result ≡ Err (ApplyRefused.Illegal part)
             → AlwaysIllegal x self.now who (Event.Starved wanted.now sweep.now) [] part }
+        ensures memory { result ≡ Err ApplyRefused.NoMemory
+            → MayWantMemory self.now who (Event.Starved wanted.now sweep.now) }
     {
-        if let Some(part) = self.starved_offence(alloc, who, wanted, sweep)? {
+        if let Some(part) = self.starved_offence(who, wanted, sweep) {
             return Err(ApplyRefused::Illegal { part });
         }
         let reply = self.starved(alloc, sweep)?;
@@ -42,7 +45,7 @@ impl Core {
 
     /// Refuses what waits, where a block of its page does not pass.
     /// There is a block for each of the page's sealed sub-pages, in rising order of place.
-    pub fn apply_spoiled<S: Sealer>(
+    pub(crate) fn apply_spoiled<S: Sealer>(
         &self,
         alloc: Global,
         sealer: &S,
@@ -60,11 +63,13 @@ impl Core {
         ensures illegal { (part : Offence) → result ≡ Err (ApplyRefused.Illegal part)
             → AlwaysIllegal (seals_by (S.key sealer.now)) self.now who (Event.Spoiled wanted.now)
             blocks.now part }
+        ensures memory { result ≡ Err ApplyRefused.NoMemory
+            → MayWantMemory self.now who (Event.Spoiled wanted.now) }
     {
         if let Some(part) = self.waiting_offence(who, wanted) {
             return Err(ApplyRefused::Illegal { part });
         }
-        match self.spoiled(alloc, sealer, wanted, blocks)? {
+        match self.spoiled(sealer, wanted, blocks) {
             Some(spoiled) => {
                 let sub = spoiled.place;
                 Ok(only_reply(alloc, Reply::Tampered { sub }))
@@ -74,7 +79,7 @@ impl Core {
     }
 
     /// Ends a search among the frames of an enclave and the pool, where the sweep allows an answer.
-    pub fn apply_survey(
+    pub(crate) fn apply_survey(
         &self,
         alloc: Global,
         enclave: u16,
@@ -90,8 +95,10 @@ impl Core {
         ensures illegal { (x : Seals) (who : ℕ) (part : Offence)
             → result ≡ Err (ApplyRefused.Illegal part)
             → AlwaysIllegal x self.now who (Event.Survey enclave goal sweep.now) [] part }
+        ensures memory { (who : ℕ) → result ≡ Err ApplyRefused.NoMemory
+            → MayWantMemory self.now who (Event.Survey enclave goal sweep.now) }
     {
-        match self.survey(alloc, enclave, goal, sweep)? {
+        match self.survey(enclave, goal, sweep) {
             Some(reply) => Ok(only_reply(alloc, reply)),
             None => Err(ApplyRefused::Illegal { part: Part::Frame }),
         }

@@ -1,5 +1,6 @@
 // What is kept of a sub-page, and how it is sealed and opened.
-ghost use Rattle.std.specs.Prelude.{◌≡◌, ◌↔◌, ◌+◌, ◌^◌, ◌<◌, ◌≤◌, [], length, IsTrue, IsFalse, IsSome, Some};
+ghost use Rattle.std.specs.Prelude.{◌≡◌, ◌↔◌, ◌+◌, ◌^◌, ◌<◌, ◌≤◌, [], length, IsTrue, IsFalse};
+ghost use Rattle.std.specs.Prelude.{IsSome, Some};
 ghost use Rattle.std.specs.Bool.{OnTrue, OnFalse};
 ghost use Rattle.eleos_core.specs.Seals.{nonce_of, seals_by};
 
@@ -50,7 +51,8 @@ impl SubPage {
         requires sealed { IsSome self.now.tag }
         requires fits { length block.old ≤ LONGEST_SEALED }
         ensures passes { IsTrue result
-            ↔ (Some ((seals_by (S.key sealer.now)).tag place self.now.version block.old) ≡ self.now.tag) }
+            ↔ (Some ((seals_by (S.key sealer.now)).tag place self.now.version block.old)
+            ≡ self.now.tag) }
         ensures opened { OnTrue result
             (block.new ≡ (seals_by (S.key sealer.now)).unseal place self.now.version block.old) }
         ensures kept { OnFalse result (block.new ≡ block.old) }

@@ -6,7 +6,7 @@ ghost use Rattle.eleos_base.specs.Plans.{IsGood};
 ghost use Rattle.eleos_core.specs.Cells.{IsUse, part_of_frame};
 ghost use Rattle.eleos_core.specs.Opening.{AreFrames, opening_clocks, opening_frame};
 ghost use Rattle.eleos_core.specs.Parts.{frame_part};
-ghost use Rattle.eleos_core.specs.Places.{all_frames};
+ghost use Rattle.eleos_base.specs.Places.{all_frames};
 
 use crate::cells::{Clock, Frame, Use};
 use eleos_base::{NoMemory, PAGE_BYTES, Plan};

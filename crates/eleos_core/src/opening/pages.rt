@@ -6,7 +6,7 @@ ghost use Rattle.eleos_base.specs.Plans.{IsGood};
 ghost use Rattle.eleos_core.specs.Cells.{IsPage, part_of_page, subs_per_page};
 ghost use Rattle.eleos_core.specs.Opening.{ArePages, absent_page, opening_lives, opening_page};
 ghost use Rattle.eleos_core.specs.Opening.{pages_among, sub_among};
-ghost use Rattle.eleos_core.specs.Places.{all_pages};
+ghost use Rattle.eleos_base.specs.Places.{all_pages};
 
 use crate::cells::{Alloc, Page, SubPage};
 use eleos_base::{Live, NoMemory, Plan, SUBS_PER_PAGE};

@@ -1,65 +1,71 @@
-// Lists of frames: which have the same frames, and whose frames differ.
-ghost use Rattle.std.specs.Prelude.{◌≡◌, ◌↔◌, IfOk, IsTrue, IsPermutation, nat_eq};
+// The frames that a sweep names: whether they are those of a list, and whether they differ. Each is
+// counted where it stands, so that a sweep is judged without memory.
+ghost use Rattle.std.specs.Prelude.{◌≡◌, ◌↔◌, ◌==◌, IsTrue, IsPermutation, count_by, nat_eq};
 ghost use Rattle.std.specs.List.{IsDistinct, list_all, list_any};
-ghost use Rattle.std.specs.List.Sorted.{IsNonDecreasing};
+ghost use Rattle.eleos_core.specs.Sweeps.{frames_in};
 
-use eleos_base::NoMemory;
-use std::alloc::Global;
+use eleos_base::Looked;
 
-/// The frames in rising order.
-fn in_order(alloc: Global, frames: &[u32]) -> Result<Vec<u32>, NoMemory>
-    ensures same { IfOk result (λ sorted. IsPermutation frames.now sorted.items) }
-    ensures rising { IfOk result (λ sorted. IsNonDecreasing sorted.items) }
+/// The sweep and the list have the same frames, each as often.
+pub fn are_same(sweep: &[Looked], list: &[u32]) -> bool
+    ensures { IsTrue result ↔ IsPermutation (frames_in sweep.now) list.now }
 {
-    let mut sorted = Vec::from_slice(alloc, frames)?;
-    sorted.sort_unstable();
-    Ok(sorted)
+    if !are_seen_alike(sweep, list) {
+        return false;
+    }
+    are_listed_alike(sweep, list)
 }
 
-/// Both lists have the same frames, each as often.
-pub fn are_same(alloc: Global, some: &[u32], other: &[u32]) -> Result<bool, NoMemory>
-    ensures { IfOk result (λ yes. IsTrue yes ↔ IsPermutation some.now other.now) }
+/// Each frame that the sweep names stands in both as often.
+fn are_seen_alike(sweep: &[Looked], list: &[u32]) -> bool
+    ensures { result ≡ list_all (λ seen.
+        count_by (λ other. other.frame == seen.frame) sweep.now
+        == count_by (λ frame. frame == seen.frame) list.now) sweep.now }
 {
-    let first = in_order(alloc, some)?;
-    let second = in_order(alloc, other)?;
-    Ok(first.as_slice() == second.as_slice())
+    sweep.iter().all(|seen| times_seen(sweep, seen.frame) == times_in(list, seen.frame))
 }
 
-/// No frame stands in the list twice.
-pub fn are_distinct(alloc: Global, frames: &[u32]) -> Result<bool, NoMemory>
-    ensures { IfOk result (λ yes. IsTrue yes ↔ IsDistinct nat_eq frames.now) }
+/// Each frame of the list stands in both as often.
+fn are_listed_alike(sweep: &[Looked], list: &[u32]) -> bool
+    ensures { result ≡ list_all (λ frame.
+        count_by (λ seen. seen.frame == frame) sweep.now
+        == count_by (λ other. other == frame) list.now) list.now }
 {
-    let sorted = in_order(alloc, frames)?;
-    Ok(are_rising(&sorted))
+    list.iter().all(|frame| times_seen(sweep, *frame) == times_in(list, *frame))
 }
 
-/// Each of the sorted frames is above the one before it.
-fn are_rising(sorted: &[u32]) -> bool
-    requires { IsNonDecreasing sorted.now }
-    ensures { IsTrue result ↔ IsDistinct nat_eq sorted.now }
+/// How often the sweep names the frame.
+fn times_seen(sweep: &[Looked], frame: u32) -> usize
+    ensures { result ≡ count_by (λ seen. seen.frame == frame) sweep.now }
 {
-    sorted.is_sorted_by(|frame, next| frame < next)
+    sweep.iter().filter(|seen| seen.frame == frame).count()
 }
 
-/// All the frames stand in the list.
-pub fn are_listed(alloc: Global, frames: &[u32], list: &[u32]) -> Result<bool, NoMemory>
-    ensures { IfOk result (λ yes.
-        yes ≡ list_all (λ frame. list_any (nat_eq frame) list.now) frames.now) }
+/// How often the frame stands in the list.
+fn times_in(list: &[u32], frame: u32) -> usize
+    ensures { result ≡ count_by (λ other. other == frame) list.now }
 {
-    let sorted = in_order(alloc, list)?;
-    Ok(are_in(frames, &sorted))
+    list.iter().filter(|other| **other == frame).count()
 }
 
-fn are_in(frames: &[u32], sorted: &[u32]) -> bool
-    requires { IsNonDecreasing sorted.now }
-    ensures { result ≡ list_all (λ frame. list_any (nat_eq frame) sorted.now) frames.now }
+/// The sweep names no frame twice.
+pub fn are_distinct(sweep: &[Looked]) -> bool
+    ensures { IsTrue result ↔ IsDistinct nat_eq (frames_in sweep.now) }
 {
-    frames.iter().all(|frame| is_in(*frame, sorted))
+    are_seen_once(sweep)
 }
 
-fn is_in(frame: u32, sorted: &[u32]) -> bool
-    requires { IsNonDecreasing sorted.now }
-    ensures { result ≡ list_any (nat_eq frame) sorted.now }
+/// Each frame that the sweep names stands in it just once.
+fn are_seen_once(sweep: &[Looked]) -> bool
+    ensures { result ≡ list_all (λ seen.
+        count_by (λ other. other.frame == seen.frame) sweep.now == 1) sweep.now }
 {
-    sorted.binary_search(&frame).is_ok()
+    sweep.iter().all(|seen| times_seen(sweep, seen.frame) == 1)
+}
+
+/// Each frame that the sweep names stands in the list.
+pub fn are_listed(sweep: &[Looked], list: &[u32]) -> bool
+    ensures { result ≡ list_all (λ seen. list_any (nat_eq seen.frame) list.now) sweep.now }
+{
+    sweep.iter().all(|seen| list.contains(&seen.frame))
 }

@@ -6,7 +6,7 @@ ghost use Rattle.eleos_core.specs.Applying.{Makes};
 ghost use Rattle.eleos_core.specs.Fills.{AreFit};
 ghost use Rattle.eleos_core.specs.Legal.{IsActor};
 ghost use Rattle.eleos_core.specs.Parts.{frame_in};
-ghost use Rattle.eleos_core.specs.Places.{all_pages};
+ghost use Rattle.eleos_base.specs.Places.{all_pages};
 ghost use Rattle.eleos_core.specs.Quiet.{AllPass, IsSpoiledAt, IsStarving, IsSurveyed, IsWaiting};
 ghost use Rattle.eleos_core.specs.Quiet.{spoiled_stamp, starved_stamp, survey_stamp};
 ghost use Rattle.eleos_core.specs.Quiet.{wanted_page, wanted_part, wanted_places};
@@ -24,7 +24,7 @@ use std::alloc::Global;
 
 impl Core {
     /// Refuses what waits for a frame, with what was seen of the frames that its page may take.
-    pub fn starved(&self, alloc: Global, sweep: &[Looked]) -> Result<Reply, NoMemory>
+    pub(crate) fn starved(&self, alloc: Global, sweep: &[Looked]) -> Result<Reply, NoMemory>
         ensures { (x : Seals) (who : ℕ) (wanted : Wanted) → IsCaller self.now.plan who
             → IsStarving self.now who wanted sweep.now → IfOk result (λ reply.
             Makes x (starved_stamp who wanted sweep.now reply) self.now self.now) }
@@ -39,60 +39,55 @@ impl Core {
 
     /// Refuses what waits where a block of its page does not pass: names the first such place, and
     /// how many blocks were used up to it. Where all blocks pass there is nothing to refuse.
-    pub fn spoiled<S: Sealer>(
+    pub(crate) fn spoiled<S: Sealer>(
         &self,
-        alloc: Global,
         sealer: &S,
         wanted: &Wanted,
         blocks: &[Block],
-    ) -> Result<Option<Spoiled>, NoMemory>
+    ) -> Option<Spoiled>
         requires page { wanted_page self.now wanted.now < all_pages self.now.plan }
         requires absent { frame_in (wanted_part self.now wanted.now) ≡ None }
         requires fit { AreFit (wanted_places self.now wanted.now) blocks.now }
-        ensures spoiled { IfOk result (λ found. IfSome found
-            (IsSpoiledAt self.now (seals_by (S.key sealer.now)) wanted.now blocks.now)) }
-        ensures passed { IfOk result (λ found. IfNone found
-            (AllPass self.now (seals_by (S.key sealer.now)) wanted.now blocks.now)) }
+        ensures spoiled { IfSome result
+            (IsSpoiledAt self.now (seals_by (S.key sealer.now)) wanted.now blocks.now) }
+        ensures passed { IfNone result
+            (AllPass self.now (seals_by (S.key sealer.now)) wanted.now blocks.now) }
         ensures makes { (who : ℕ) → IsCaller self.now.plan who → IsWaiting self.now who wanted.now
-            → IfOk result (λ found. IfSome found (λ spoiled.
-            Makes (seals_by (S.key sealer.now))
+            → IfSome result (λ spoiled. Makes (seals_by (S.key sealer.now))
             (spoiled_stamp who wanted.now (take spoiled.used blocks.now)
-            (Reply.Tampered spoiled.place)) self.now self.now)) }
+            (Reply.Tampered spoiled.place)) self.now self.now) }
     {
         let page = spot_of(&self.plan, address_of(wanted)).page;
-        let mut text = zero_page(alloc)?;
+        let mut text = zero_page();
         let subs = &self.pages[page as usize].subs;
-        Ok(open_subs(sealer, subs, page, &mut text, blocks))
+        open_subs(sealer, subs, page, &mut text, blocks)
     }
 
     /// Ends a search among the frames of an enclave and the pool. Where no answer is legal there is
     /// none, which offends against the frames.
-    pub fn survey(
-        &self,
-        alloc: Global,
-        enclave: u16,
-        goal: Goal,
-        sweep: &[Looked],
-    ) -> Result<Option<Reply>, NoMemory>
+    pub(crate) fn survey(&self, enclave: u16, goal: Goal, sweep: &[Looked]) -> Option<Reply>
         requires { enclave < length self.now.plan.enclaves }
-        ensures reply { IfOk result (IsSurveyed self.now enclave goal sweep.now) }
+        ensures reply { IsSurveyed self.now enclave goal sweep.now result }
         ensures makes { (x : Seals) (who : ℕ) → IsActor self.now.plan who
-            → IfOk result (λ found. IfSome found (λ reply.
-            Makes x (survey_stamp who enclave goal sweep.now reply) self.now self.now)) }
+            → IfSome result (λ reply.
+            Makes x (survey_stamp who enclave goal sweep.now reply) self.now self.now) }
     {
         let own = &self.clocks[enclave as usize].frames;
         if own.len() > u32::MAX as usize {
-            return Ok(None);
+            return None;
         }
         let pool = &self.clocks[self.plan.enclaves.len()].frames;
-        survey_reply(alloc, own, pool, goal, sweep)
+        survey_reply(own, pool, goal, sweep)
     }
 }
 
+/// Bytes of a page.
+const PAGE_TEXT: usize = PAGE_BYTES as usize;
+
 /// The bytes of a page, all zero.
 #[tactic(auto, unfolding(eleos_base::specs::Plain::zeros))]
-fn zero_page(alloc: Global) -> Result<Vec<u8>, NoMemory>
-    ensures { IfOk result (λ bytes. bytes.items ≡ zeros page_bytes) }
+fn zero_page() -> [u8; PAGE_TEXT]
+    ensures { result ≡ zeros page_bytes }
 {
-    Ok(vec![in alloc; 0; PAGE_BYTES as usize]?)
+    [0; PAGE_TEXT]
 }

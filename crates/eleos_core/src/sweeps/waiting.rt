@@ -1,5 +1,5 @@
 // What waits for a frame.
-ghost use Rattle.std.specs.Prelude.{◌≡◌, ◌↔◌, None, IfOk, IfSome, IsTrue, is_some};
+ghost use Rattle.std.specs.Prelude.{◌≡◌, ◌↔◌, None, IfSome, IsTrue, is_some};
 ghost use Rattle.eleos_base.specs.Plans.{IsCaller};
 ghost use Rattle.eleos_core.specs.Accesses.{page_for};
 ghost use Rattle.eleos_core.specs.Parts.{frame_in};
@@ -10,13 +10,12 @@ use crate::accesses::spot_of;
 use crate::event::Wanted;
 use crate::machine::Core;
 use crate::sweeps::is_all_taken;
-use eleos_base::{Addr, Looked, NoMemory, Op, Part};
-use std::alloc::Global;
+use eleos_base::{Addr, Looked, Op, Part};
 
 impl Core {
     /// What an event of something that waits offends against, where it does not wait: its page is
     /// in a frame, or it needs no frame or is refused at once.
-    pub fn waiting_offence(&self, who: u32, wanted: &Wanted) -> Option<Part>
+    pub(crate) fn waiting_offence(&self, who: u32, wanted: &Wanted) -> Option<Part>
         requires { IsCaller self.now.plan who }
         ensures legal { (result ≡ None) ↔ IsWaiting self.now who wanted.now }
         ensures fault { IfSome result (λ part. part ≡ waiting_fault self.now wanted.now) }
@@ -32,28 +31,25 @@ impl Core {
     }
 
     /// What the refusal for want of a frame offends against, where it is not legal.
-    pub fn starved_offence(
+    pub(crate) fn starved_offence(
         &self,
-        alloc: Global,
         who: u32,
         wanted: &Wanted,
         sweep: &[Looked],
-    ) -> Result<Option<Part>, NoMemory>
+    ) -> Option<Part>
         requires { IsCaller self.now.plan who }
-        ensures legal { IfOk result (λ found.
-            (found ≡ None) ↔ IsStarving self.now who wanted.now sweep.now) }
-        ensures fault { IfOk result (λ found.
-            IfSome found (λ part. part ≡ waiting_fault self.now wanted.now)) }
+        ensures legal { (result ≡ None) ↔ IsStarving self.now who wanted.now sweep.now }
+        ensures fault { IfSome result (λ part. part ≡ waiting_fault self.now wanted.now) }
     {
         if let Some(part) = self.waiting_offence(who, wanted) {
-            return Ok(Some(part));
+            return Some(part);
         }
         let home = self.plan.callers.as_slice()[who as usize - 1];
         let own = &self.clocks[home as usize].frames;
-        if is_all_taken(alloc, sweep, own)? {
-            Ok(None)
+        if is_all_taken(sweep, own) {
+            None
         } else {
-            Ok(Some(Part::Frame))
+            Some(Part::Frame)
         }
     }
 

@@ -1,7 +1,7 @@
 use Rattle.std.proofs.Common.{◌≡◌, ◌+◌, drop, map, option_map}
 use Rattle.eleos_base.specs.declared.plan.EnclavePlan.{EnclavePlan}
-use Rattle.eleos_core.specs.Places.{home_of}
-use Rattle.eleos_core.specs.Runs.{run_with}
+use Rattle.eleos_base.specs.Places.{home_of}
+use Rattle.eleos_base.specs.Runs.{run_with}
 use Rattle.eleos_core.proofs.frames.home_of.Given as goal
 
 -- the page is none of the enclaves so far: it is that of the others which has the number that is left

@@ -13,7 +13,7 @@ use Rattle.eleos_core.proofs.machine.Core.alloc.Goals as goal
 pub overflow_add-first : goal.overflow_add-first
 overflow_add-first c =
     let caller = subst (λ (cells : Cells). IsCaller cells.plan c.args.who) (sym c.self.view_is) c.requires.caller in
-    let good = good_size c.args.bytes c.if-bytes-eq0.false c.if-bytes-gt-MOST_BYTES.false in
+    let good = good_size c.args.bytes c.if-bytes-eq0.false c.if-bytes-gt-MOST_BLOCK_BYTES.false in
     let found = run_is c.self.inside c.self.invariant c.args.who caller c.args.bytes c.enclave_of-enclave.result c.subs_of-subs.result c.div_ceil-len.result c.index.result.now c.lowest_in.result
     c.enclave_of-enclave.ensures c.index.ensures c.subs_of-subs.ensures c.div_ceil-len.ensures c.lowest_in.ensures ∙ c.in-Some.is in
     let within = alloc_within c.self.inside c.self.invariant c.args.who caller c.args.bytes c.in-Some.start good found in
@@ -29,7 +29,7 @@ mark_run-requires-clause-pages c =
 pub mark_run-requires-clause-within : goal.mark_run-requires-clause-within
 mark_run-requires-clause-within c =
     let caller = subst (λ (cells : Cells). IsCaller cells.plan c.args.who) (sym c.self.view_is) c.requires.caller in
-    let good = good_size c.args.bytes c.if-bytes-eq0.false c.if-bytes-gt-MOST_BYTES.false in
+    let good = good_size c.args.bytes c.if-bytes-eq0.false c.if-bytes-gt-MOST_BLOCK_BYTES.false in
     let found = run_is c.self.inside c.self.invariant c.args.who caller c.args.bytes c.enclave_of-enclave.result c.subs_of-subs.result c.div_ceil-len.result c.index.result.now c.lowest_in.result
     c.enclave_of-enclave.ensures c.index.ensures c.subs_of-subs.ensures c.div_ceil-len.ensures c.lowest_in.ensures ∙ c.in-Some.is in
     let within = alloc_within c.self.inside c.self.invariant c.args.who caller c.args.bytes c.in-Some.start good found in
@@ -39,7 +39,7 @@ mark_run-requires-clause-within c =
 pub overflow_mul-result : goal.overflow_mul-result
 overflow_mul-result c =
     let caller = subst (λ (cells : Cells). IsCaller cells.plan c.args.who) (sym c.self.view_is) c.requires.caller in
-    let good = good_size c.args.bytes c.if-bytes-eq0.false c.if-bytes-gt-MOST_BYTES.false in
+    let good = good_size c.args.bytes c.if-bytes-eq0.false c.if-bytes-gt-MOST_BLOCK_BYTES.false in
     let found = run_is c.self.inside c.self.invariant c.args.who caller c.args.bytes c.enclave_of-enclave.result c.subs_of-subs.result c.div_ceil-len.result c.index.result.now c.lowest_in.result
     c.enclave_of-enclave.ensures c.index.ensures c.subs_of-subs.ensures c.div_ceil-len.ensures c.lowest_in.ensures ∙ c.in-Some.is in
     let within = alloc_within c.self.inside c.self.invariant c.args.who caller c.args.bytes c.in-Some.start good found in
@@ -50,7 +50,7 @@ overflow_mul-result c =
 pub invariant_of-self-2 : goal.invariant_of-self-2
 invariant_of-self-2 c =
     let caller = subst (λ (cells : Cells). IsCaller cells.plan c.args.who) (sym c.self.view_is) c.requires.caller in
-    let good = good_size c.args.bytes c.if-bytes-eq0.false c.if-bytes-gt-MOST_BYTES.false in
+    let good = good_size c.args.bytes c.if-bytes-eq0.false c.if-bytes-gt-MOST_BLOCK_BYTES.false in
     let found = run_is c.self.inside c.self.invariant c.args.who caller c.args.bytes c.enclave_of-enclave.result c.subs_of-subs.result c.div_ceil-len.result c.index.result.now c.lowest_in.result
     c.enclave_of-enclave.ensures c.index.ensures c.subs_of-subs.ensures c.div_ceil-len.ensures c.lowest_in.ensures ∙ c.in-Some.is in
     let order = alloc_in_order c.self.inside c.self.invariant c.args.who caller c.args.bytes c.in-Some.start good found (some_subs c.args.bytes (subs_for 1024 c.args.bytes) refl (omega (arith, c.if-bytes-eq0.false))) in
@@ -63,7 +63,7 @@ invariant_of-self-2 c =
 pub returns-clause-makes : goal.returns-clause-makes
 returns-clause-makes c =
     let caller = subst (λ (cells : Cells). IsCaller cells.plan c.args.who) (sym c.self.view_is) c.requires.caller in
-    let good = good_size c.args.bytes c.if-bytes-eq0.false c.if-bytes-gt-MOST_BYTES.false in
+    let good = good_size c.args.bytes c.if-bytes-eq0.false c.if-bytes-gt-MOST_BLOCK_BYTES.false in
     let found = run_is c.self.inside c.self.invariant c.args.who caller c.args.bytes c.enclave_of-enclave.result c.subs_of-subs.result c.div_ceil-len.result c.index.result.now c.lowest_in.result
     c.enclave_of-enclave.ensures c.index.ensures c.subs_of-subs.ensures c.div_ceil-len.ensures c.lowest_in.ensures ∙ c.in-Some.is in
     let blocks : c.put_in.new.cell ≡ with_block (record { start = c.in-Some.start; len = subs_for 1024 c.args.bytes; owner = c.args.who; is_shared = false }) (blocks_home c.self.inside c.self.invariant c.args.who caller)

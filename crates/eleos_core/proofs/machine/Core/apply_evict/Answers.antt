@@ -18,3 +18,6 @@ pub returns-clause-applied : goal.returns-clause-applied
 returns-clause-applied g c = λ who actor.
     let x : Seals = seals_by (g.S.Sealer.key c.args.sealer.now) in
     evict_applied x c.args.self.now c.evict.new.self who c.args.page c.args.frame c.in_ok-puts.puts c.requires.page c.in_default.ensures (c.in_ok-puts.ensures.makes who actor) (c.in_ok-puts.ensures.puts who)
+
+pub returns-in_err-puts-clause-memory : goal.returns-in_err-puts-clause-memory
+returns-in_err-puts-clause-memory g c = λ who same. c.in_default.ensures

@@ -18,3 +18,6 @@ returns-clause-applied c = λ x who actor.
     answered x c.args.self.now who (Move c.args.frame c.args.from c.args.to) [] c.move_frame.new.self Done c.only_reply.result.reply c.only_reply.result.puts
     c.only_reply.ensures.reply c.only_reply.ensures.puts
     (move_applied x c.args.self.now c.move_frame.new.self who c.args.frame c.args.from c.args.to (c.in_ok-move_frame.ensures.makes x who actor))
+
+pub returns-in_err-move_frame-clause-memory : goal.returns-in_err-move_frame-clause-memory
+returns-in_err-move_frame-clause-memory c = λ who same. c.in_default.ensures

@@ -1,20 +1,17 @@
 use Rattle.std.proofs.Common.{[]}
 use Rattle.eleos_base.specs.declared.memory.Part.TheVariants.{Frame}
 use Rattle.eleos_core.specs.declared.event.Event.TheVariants.{Survey}
-use Rattle.eleos_core.proofs.Effects.{answered, no_offence, refused}
+use Rattle.eleos_core.proofs.Effects.{answered, refused}
 use Rattle.eleos_core.proofs.WaitEvents.{survey_answered, survey_illegal}
 use Rattle.eleos_core.proofs.machine.Core.apply_survey.Goals as goal
-
-pub returns-in_err-reply-clause-illegal : goal.returns-in_err-reply-clause-illegal
-returns-in_err-reply-clause-illegal c = λ x who part same. absurd (no_offence c.from_residual.result part c.from_residual.ensures.1 same)
 
 pub returns-in-Some-clause-applied : goal.returns-in-Some-clause-applied
 returns-in-Some-clause-applied c = λ x who actor.
     answered x c.args.self.now who (Survey c.args.enclave c.args.goal c.args.sweep.now) [] c.args.self.now c.in-Some.reply c.only_reply.result.reply c.only_reply.result.puts
     c.only_reply.ensures.reply c.only_reply.ensures.puts
-    (survey_answered x c.args.self.now who c.args.enclave c.args.goal c.args.sweep.now c.in_ok-reply.field-0 c.in-Some.reply c.in-Some.is (c.in_ok-reply.ensures.makes x who actor))
+    (survey_answered x c.args.self.now who c.args.enclave c.args.goal c.args.sweep.now c.survey.result c.in-Some.reply c.in-Some.is (c.survey.ensures.makes x who actor))
 
 pub returns-in-None-clause-illegal : goal.returns-in-None-clause-illegal
 returns-in-None-clause-illegal c = λ x who part same.
     refused x c.args.self.now who (Survey c.args.enclave c.args.goal c.args.sweep.now) [] Frame part same
-    (survey_illegal x c.args.self.now who c.args.enclave c.args.goal c.args.sweep.now c.requires c.in_ok-reply.field-0 c.in-None.is c.in_ok-reply.ensures.reply)
+    (survey_illegal x c.args.self.now who c.args.enclave c.args.goal c.args.sweep.now c.requires c.survey.result c.in-None.is c.survey.ensures.reply)

@@ -1,6 +1,6 @@
 use Rattle.std.proofs.Common.{map, arith}
 use Rattle.eleos_core.specs.Applying.{put_of}
-use Rattle.eleos_core.specs.Places.{all_pages}
+use Rattle.eleos_base.specs.Places.{all_pages}
 use Rattle.eleos_core.specs.Seals.{seals_by}
 use Rattle.eleos_core.proofs.Evicting.{can_leave, evict_made, evict_sent, page_left, use_within}
 use Rattle.eleos_core.proofs.PlaceNumbers.{most_pages}

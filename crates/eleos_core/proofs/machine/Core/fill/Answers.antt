@@ -1,5 +1,5 @@
 use Rattle.std.proofs.Common.{arith}
-use Rattle.eleos_core.specs.Places.{all_pages}
+use Rattle.eleos_base.specs.Places.{all_pages}
 use Rattle.eleos_core.specs.Seals.{seals_by}
 use Rattle.eleos_core.proofs.Entering.{fill_absent, fill_fit, fill_free, fill_judged, fill_made, fill_whole, page_entered, use_among}
 use Rattle.eleos_core.proofs.PlaceNumbers.{most_pages}

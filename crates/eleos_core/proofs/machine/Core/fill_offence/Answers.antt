@@ -2,7 +2,7 @@ use Rattle.std.proofs.Common.{◌≡◌, true, None, ◌∙◌, sym, ap, inl, in
 use Rattle.eleos_core.specs.Cells.{Cells, part_of_frame, part_of_page}
 use Rattle.eleos_core.specs.Fills.{page_in, the_frame_in}
 use Rattle.eleos_core.specs.Parts.{frame_in, holder_in, owner_in}
-use Rattle.eleos_core.specs.Places.{home_of}
+use Rattle.eleos_base.specs.Places.{home_of}
 use Rattle.eleos_core.proofs.Offending.{not_present, owner_other, owner_same}
 use Rattle.eleos_core.proofs.TwoCells.{frame_part_is, page_part_is}
 use Rattle.eleos_core.proofs.machine.Core.fill_offence.Goals as goal

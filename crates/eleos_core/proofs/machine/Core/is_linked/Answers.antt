@@ -1,5 +1,5 @@
 use Rattle.std.proofs.Common.{◌≡◌, ◌+◌, ◌*◌, ◌-◌, ◌≤◌, length, slice_index, ◌∙◌, sym, subst, arith}
-use Rattle.eleos_core.specs.Places.{all_pages}
+use Rattle.eleos_base.specs.Places.{all_pages}
 use Rattle.eleos_core.proofs.Offending.{link_here}
 use Rattle.eleos_core.proofs.machine.Core.is_linked.Goals as goal
 

@@ -3,7 +3,7 @@ use Rattle.std.proofs.lemmas.Bool.{le-ltb}
 use Rattle.eleos_core.specs.Accesses.{page_for}
 use Rattle.eleos_core.specs.Cells.{Cells}
 use Rattle.eleos_core.specs.Parts.{frame_in}
-use Rattle.eleos_core.specs.Places.{all_pages, page_of, sub_of}
+use Rattle.eleos_base.specs.Places.{all_pages, page_of, sub_of}
 use Rattle.eleos_core.proofs.WaitingPages.{absent_beyond, beyond}
 use Rattle.eleos_core.proofs.machine.Core.is_present_at.Goals as goal
 

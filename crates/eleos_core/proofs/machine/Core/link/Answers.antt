@@ -1,5 +1,5 @@
 use Rattle.std.proofs.Common.{◌≡◌, ◌+◌, ◌-◌, ◌*◌, ◌<◌, sym, ◌∙◌, ap, subst, arith}
-use Rattle.eleos_core.specs.Places.{all_pages}
+use Rattle.eleos_base.specs.Places.{all_pages}
 use Rattle.eleos_core.proofs.LinkCells.{link-made, link-refused, link_count_at, link_index}
 use Rattle.eleos_core.proofs.MachineAccesses.{any_seals}
 use Rattle.eleos_core.proofs.Machines.{accepted_there, page_within}

@@ -2,7 +2,7 @@ use Rattle.std.proofs.Common.{◌≡◌, ◌*◌, ◌≤◌, [], length, replica
 use Rattle.eleos_base.specs.declared.plan.Plan.{Plan}
 use Rattle.eleos_core.specs.Applying.{Shows}
 use Rattle.eleos_core.specs.Cells.{IsCore, cells_of}
-use Rattle.eleos_core.specs.Places.{all_pages}
+use Rattle.eleos_base.specs.Places.{all_pages}
 use Rattle.eleos_core.proofs.OpeningCells.{IsOpening, pages_count, shows_opening, core_opening}
 use Rattle.eleos_core.proofs.OpeningNumbers.{few_pages}
 use Rattle.eleos_core.proofs.machine.Core.make.Goals as goal

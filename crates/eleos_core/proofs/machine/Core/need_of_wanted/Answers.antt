@@ -3,7 +3,7 @@ use Rattle.eleos_base.specs.declared.memory.Addr.{Addr}
 use Rattle.eleos_core.specs.Accesses.{page_for}
 use Rattle.eleos_core.specs.Cells.{Cells, cells_of}
 use Rattle.eleos_core.specs.Fills.{sealed_places}
-use Rattle.eleos_core.specs.Places.{all_pages, page_of, sub_of}
+use Rattle.eleos_base.specs.Places.{all_pages, page_of, sub_of}
 use Rattle.eleos_core.specs.Quiet.{wanted_page, wanted_part}
 use Rattle.eleos_core.proofs.WaitingPages.{beyond, unsealed_beyond}
 use Rattle.eleos_core.proofs.machine.Core.need_of_wanted.Goals as goal

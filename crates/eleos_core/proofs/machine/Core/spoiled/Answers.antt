@@ -7,7 +7,7 @@ use Rattle.eleos_core.proofs.QuietEntries.{fit_in, makes_in, none_then, page_in,
 use Rattle.eleos_core.proofs.machine.Core.spoiled.Goals as goal
 
 pub open_subs-requires-clause-room : goal.open_subs-requires-clause-room
-open_subs-requires-clause-room g c = ap length (c.deref_mut.ensures.value ∙ c.in_ok-text.ensures) ∙ length-zeros 4096
+open_subs-requires-clause-room g c = ap length c.zero_page-text.ensures ∙ length-zeros 4096
 
 pub open_subs-requires-clause-page : goal.open_subs-requires-clause-page
 open_subs-requires-clause-page g c =

@@ -1,5 +1,4 @@
 use Rattle.std.proofs.Common.{◌≡◌, ◌<◌, ◌∙◌, IfSome, length, slice_index_or, subst, sym}
-use Rattle.std.proofs.lemmas.Result.{IfOk-weaker}
 use Rattle.eleos_core.specs.Applying.{Makes}
 use Rattle.eleos_core.specs.Cells.{Cells}
 use Rattle.eleos_core.specs.Legal.{IsActor}
@@ -16,8 +15,8 @@ returns-clause-reply c =
     let pool : c.deref-2.result.now ≡ slice_index_or s.clocks.items (length s.plan.enclaves) c.deref-2.result.now
     = subst (λ z. z ≡ slice_index_or s.clocks.items (length s.plan.enclaves) z) (sym (c.deref-2.ensures.value ∙ c.behind-self-2.view_is))
     (subst (λ i. c.index-2.result.now ≡ slice_index_or s.clocks.items i c.index-2.result.now) c.len-2.ensures c.index-2.ensures) in
-    IfOk-weaker c.survey_reply.result _ _ (λ found only. subst (λ (m : Cells). IsSurveyed m c.args.enclave c.args.goal c.args.sweep.now found) c.self.view_is
-    (survey_is s.plan s.live.items s.clocks.items s.pages.items s.frames.items s.links.items c.self.invariant c.args.enclave c.args.goal c.args.sweep.now c.deref.result.now c.deref-2.result.now found inside own pool only)) c.survey_reply.ensures
+    subst (λ (m : Cells). IsSurveyed m c.args.enclave c.args.goal c.args.sweep.now c.survey_reply.result) c.self.view_is
+    (survey_is s.plan s.live.items s.clocks.items s.pages.items s.frames.items s.links.items c.self.invariant c.args.enclave c.args.goal c.args.sweep.now c.deref.result.now c.deref-2.result.now c.survey_reply.result inside own pool c.survey_reply.ensures)
 
 pub returns-clause-makes : goal.returns-clause-makes
 returns-clause-makes c = λ x who actor.
@@ -29,5 +28,5 @@ returns-clause-makes c = λ x who actor.
     let pool : c.deref-2.result.now ≡ slice_index_or s.clocks.items (length s.plan.enclaves) c.deref-2.result.now
     = subst (λ z. z ≡ slice_index_or s.clocks.items (length s.plan.enclaves) z) (sym (c.deref-2.ensures.value ∙ c.behind-self-2.view_is))
     (subst (λ i. c.index-2.result.now ≡ slice_index_or s.clocks.items i c.index-2.result.now) c.len-2.ensures c.index-2.ensures) in
-    IfOk-weaker c.survey_reply.result _ _ (λ found only. subst (λ (m : Cells). IfSome found (λ reply. Makes x (survey_stamp who c.args.enclave c.args.goal c.args.sweep.now reply) m m)) c.self.view_is
-    (survey_makes s.plan s.live.items s.clocks.items s.pages.items s.frames.items s.links.items c.self.invariant c.args.enclave c.args.goal c.args.sweep.now c.deref.result.now c.deref-2.result.now found inside own pool only x who mine)) c.survey_reply.ensures
+    subst (λ (m : Cells). IfSome c.survey_reply.result (λ reply. Makes x (survey_stamp who c.args.enclave c.args.goal c.args.sweep.now reply) m m)) c.self.view_is
+    (survey_makes s.plan s.live.items s.clocks.items s.pages.items s.frames.items s.links.items c.self.invariant c.args.enclave c.args.goal c.args.sweep.now c.deref.result.now c.deref-2.result.now c.survey_reply.result inside own pool c.survey_reply.ensures x who mine)

@@ -1,7 +1,7 @@
 use Rattle.std.proofs.Common.{◌≡◌, Some, map}
 use Rattle.std.specs.List.{range_with_len}
-use Rattle.eleos_core.specs.Places.{frame_counts}
-use Rattle.eleos_core.specs.Runs.{first_of_run}
+use Rattle.eleos_base.specs.Places.{frame_counts}
+use Rattle.eleos_base.specs.Runs.{first_of_run}
 use Rattle.eleos_core.specs.State.{opening_frames}
 use Rattle.eleos_core.proofs.opening.frames.make_clocks.Given as goal
 

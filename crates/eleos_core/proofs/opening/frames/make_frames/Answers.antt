@@ -1,8 +1,8 @@
 use Rattle.std.proofs.Common.{◌≡◌, ◌+◌, Some, None, length, map, slice_index_or, sum, sym, ◌∙◌, ap, arith}
 use Rattle.std.specs.List.{range_with_len}
 use Rattle.eleos_core.specs.Opening.{opening_frame}
-use Rattle.eleos_core.specs.Places.{frame_counts}
-use Rattle.eleos_core.specs.Runs.{first_of_run}
+use Rattle.eleos_base.specs.Places.{frame_counts}
+use Rattle.eleos_base.specs.Runs.{first_of_run}
 use Rattle.eleos_core.proofs.OpeningFrames.{enclave_owns, owner_more, pool_owns}
 use Rattle.eleos_core.proofs.OpeningNumbers.{all_runs_frames, frames_at}
 use Rattle.eleos_core.proofs.opening.frames.make_frames.Goals as goal

@@ -2,8 +2,8 @@ use Rattle.std.proofs.Common.{◌≡◌, map}
 use Rattle.std.specs.List.{range_with_len}
 use Rattle.eleos_core.specs.Cells.{part_of_page}
 use Rattle.eleos_core.specs.Opening.{ArePages, opening_page}
-use Rattle.eleos_core.specs.Places.{page_counts}
-use Rattle.eleos_core.specs.Runs.{first_of_run}
+use Rattle.eleos_base.specs.Places.{page_counts}
+use Rattle.eleos_base.specs.Runs.{first_of_run}
 use Rattle.eleos_core.proofs.opening.pages.make_pages.Given as goal
 
 -- the pages of the enclaves so far

@@ -1,9 +1,16 @@
-use Rattle.std.proofs.Common.{nat_eq, ◌∙◌}
-use Rattle.std.specs.Cmp.Lexicographic.{pointwise}
-use Rattle.eleos_core.proofs.FrameLists.{same_decides}
+use Rattle.std.proofs.Common.{◌≡◌, ◌∙◌, ◌&&◌, true, false, ap, sym}
+use Rattle.std.specs.List.{list_all}
+use Rattle.eleos_base.specs.declared.memory.Looked.{Looked}
+use Rattle.eleos_core.proofs.FrameLists.{is_alike, same_decides}
 use Rattle.eleos_core.proofs.sweeps.lists.are_same.Goals as goal
 
+pub returns-then-not-are_seen_alike : goal.returns-then-not-are_seen_alike
+returns-then-not-are_seen_alike c =
+    let no : list_all (λ (seen : Looked). is_alike c.args.sweep.now c.args.list.now seen.frame) c.args.sweep.now ≡ false = (cc) in
+    same_decides c.args.sweep.now c.args.list.now false (sym (ap (λ b. b && list_all (is_alike c.args.sweep.now c.args.list.now) c.args.list.now) no))
+
 pub returns : goal.returns
-returns c = same_decides c.args.some.now c.args.other.now c.in_ok-first.first.items c.in_ok-second.second.items c.eq.result
-    c.in_ok-first.ensures.same c.in_ok-second.ensures.same c.in_ok-first.ensures.rising c.in_ok-second.ensures.rising
-    (c.eq.ensures ∙ (λ i. pointwise nat_eq (c.as_slice.ensures.value i) (c.as_slice-2.ensures.value i)))
+returns c =
+    let yes : list_all (λ (seen : Looked). is_alike c.args.sweep.now c.args.list.now seen.frame) c.args.sweep.now ≡ true = (cc) in
+    same_decides c.args.sweep.now c.args.list.now c.are_listed_alike.result
+    (c.are_listed_alike.ensures ∙ sym (ap (λ b. b && list_all (is_alike c.args.sweep.now c.args.list.now) c.args.list.now) yes))

@@ -1,6 +1,6 @@
-use Rattle.std.proofs.Common.{◌≡◌, ◌<◌, false, ◌∙◌, arith}
+use Rattle.std.proofs.Common.{◌≡◌, ◌<◌, false, refl, arith}
 use Rattle.std.specs.List.{count_by, list_all}
-use Rattle.std.proofs.lemmas.Result.{IfOk-weaker}
+use Rattle.eleos_core.specs.Sweeps.{frames_in}
 use Rattle.eleos_core.proofs.SweepTests.{is_free, is_free_or_taken, not_swept, swept_decides}
 use Rattle.eleos_core.proofs.sweeps.surveys.is_swept.Goals as goal
 use Rattle.eleos_core.proofs.sweeps.surveys.is_swept.Goals.{then-count_free-low-via-then-count_free-low, then-count_free-low-via-else-count_free-low+then-not-are_free_or_taken}
@@ -17,5 +17,4 @@ returns-then-count_free-low c = (
 
 pub returns : goal.returns
 returns c = let few : count_by is_free c.args.sweep.now < c.args.low = omega (arith, c.count_free.ensures, c.if-count_free-low.false) in
-    IfOk-weaker c.are_same.result _ _
-    (λ yes. swept_decides c.args.own.now c.args.low c.args.sweep.now c.deref.result.now yes few (cc) (c.deref.ensures.value ∙ c.in_ok-frames.ensures)) c.are_same.ensures
+    swept_decides c.args.own.now c.args.low c.args.sweep.now (frames_in c.args.sweep.now) c.are_same.result few (cc) refl c.are_same.ensures
