@@ -9,7 +9,7 @@ use Rattle.eleos_core.specs.declared.cells.page.Page.{Page}
 use Rattle.eleos_core.specs.Applying.{Shows}
 use Rattle.eleos_core.specs.Cells.{Cells, IsCore, cells_of, part_in, part_of_frame, part_of_page}
 use Rattle.eleos_core.specs.Parts.{Part, alloc_part, cell_of, clock_part, later_cell, no_cell, no_part, the_alloc, the_clock, the_frame, the_page}
-use Rattle.eleos_core.specs.Places.{all_frames, all_pages}
+use Rattle.eleos_base.specs.Places.{all_frames, all_pages}
 use Rattle.eleos_core.specs.Seals.{Seals}
 use Rattle.eleos_core.proofs.Tests.{by_test}
 use Rattle.eleos_machine.specs.Machines.{AreOpening, all_cells}

@@ -178,6 +178,7 @@ module _ (k : Plan) where
   passes_none : Passes → plan_fault k ≡ None
   passes_none p = passes_on _ _ Enclaves p.enclaves (passes_on _ _ Pages p.pages (passes_on _ _ Frames p.frames (passes_on _ _ Callers p.callers (passes_on _ _ Wear p.wear (passes_on _ None Blocks p.blocks refl)))))
 
+  -- no fault is found in a plan exactly where its machine can be made
   pub none_bad : IsNone (plan_fault k) ↔ CanBeMade k
   none_bad = ((λ none. can_be_made (fault_passes (none_of (plan_fault k) none))), (λ can. ap is_some (passes_none (passes can))))
 

@@ -1,4 +1,3 @@
-mod Rooms
 mod Lawful
 mod Listed
 mod Stamps
@@ -6,3 +5,6 @@ mod CellsInOrder
 mod Judged
 mod Wholes
 mod Refusals
+mod FewCells
+mod Sweeps
+pub mod Entries

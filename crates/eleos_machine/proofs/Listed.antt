@@ -10,6 +10,7 @@ among : {A : Type 0} (P : A → Type 0) (before : List A) (x : A) (rest : List A
 among P [] x rest each = each.0
 among P (y ∷ before) x rest each = among P before x rest each.1
 
+-- what holds of each item of a list holds of the one between those before and those behind
 pub one_of : {A : Type 0} (P : A → Type 0) (all before : List A) (x : A) (rest : List A) → all ≡ before ++ x ∷ rest → AllByRecursion P all → P x
 one_of P all before x rest is each = among P before x rest (subst (AllByRecursion P) is each)
 

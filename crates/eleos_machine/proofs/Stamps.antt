@@ -96,5 +96,6 @@ room_is z all before s rest v capacity is each view room = subst (λ (y : Site).
 pub two_last : {A : Type 0} (all some less : List A) (last other : A) → all ≡ some ++ last ∷ [] → some ≡ less ++ other ∷ [] → all ≡ less ++ other ∷ last ∷ []
 two_last all some less last other is other_is = is ∙ (ap (λ xs. xs ++ last ∷ []) other_is ∙ append_assoc less (other ∷ []) (last ∷ []))
 
+-- a list is longer by two than what is left of it without its last two items
 pub two_less : {A : Type 0} (all some less : List A) (last other : A) → all ≡ some ++ last ∷ [] → some ≡ less ++ other ∷ [] → length all ≡ length less + 2
 two_less all some less last other is other_is = ap length (two_last all some less last other is other_is) ∙ length-append less (other ∷ last ∷ [])

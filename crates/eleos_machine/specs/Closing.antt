@@ -27,6 +27,7 @@ has_foreign n ss = not (length ss == n) || has_number 0 ss
 abbrev pub has_link : PassState → Bool
 has_link s = not (s.hand.number == 0) && not (length (links core_terms s.hand) == 0)
 
+-- the pass has the turn of some cell
 abbrev pub has_turn : PassState → Bool
 has_turn s = not (length s.hand.turns == 0)
 

@@ -1,11 +1,12 @@
 -- Which plans a machine can be made of, and which field is the first bad one of any other plan.
-use Rattle.std.specs.Prelude.{◌≡◌, ℕ, ◌+◌, ◌^◌, ◌≤◌, List, [], ◌∷◌, ◌++◌, length, Bool, true, ◌==◌, ◌&&◌, ◌||◌, nat_le, nat_lt, is_some, Option, Some, None, sum_by, if◌then◌else◌}
+use Rattle.std.specs.Prelude.{◌≡◌, ℕ, ◌+◌, ◌^◌, ◌≤◌, List, [], ◌∷◌, ◌++◌, length, Bool, true, ◌==◌, ◌&&◌, ◌||◌, nat_le, nat_lt, Option, Some, None, sum_by, if◌then◌else◌}
 use Rattle.std.specs.List.{list_all}
 use Rattle.eleos_base.specs.declared.plan.BlockPlan.{BlockPlan}
 use Rattle.eleos_base.specs.declared.plan.EnclavePlan.{EnclavePlan}
 use Rattle.eleos_base.specs.declared.plan.Plan.{Plan}
-use Rattle.eleos_base.specs.Plain.{EnclaveMemory, is_good_size, lowest_run, memory_of, opening, subs_for}
-use Rattle.eleos_base.specs.Plans.{IsGood, enclave_of, sub_bytes}
+use Rattle.eleos_base.specs.Plain.{is_good_size}
+use Rattle.eleos_base.specs.Plans.{IsGood, enclave_of}
+use Rattle.eleos_base.specs.Rooms.{has_space}
 use Rattle.eleos_machine.specs.declared.judging.PlanField.{PlanField}
 use Rattle.eleos_machine.specs.declared.judging.PlanField.TheVariants.{Enclaves, Pages, Frames, Callers, Wear, Blocks}
 
@@ -52,9 +53,7 @@ module _ (k : Plan) where
 
   -- behind these header blocks the block finds a free run in its enclave
   abbrev pub finds_room : List BlockPlan → BlockPlan → Bool
-  finds_room before block =
-      let memory : EnclaveMemory = memory_of (opening (record k { blocks = before })) block.enclave in
-      is_some (lowest_run memory.blocks (length memory.texts) (subs_for (sub_bytes k block.enclave) block.bytes))
+  finds_room before block = has_space (record k { blocks = before }) block.enclave block.bytes
 
   -- the block has a good size, an enclave of the plan, an owner who may have it, and room behind these
   abbrev pub is_block_good : List BlockPlan → BlockPlan → Bool

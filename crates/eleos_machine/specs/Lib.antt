@@ -1,6 +1,8 @@
 pub mod Judging
-pub mod Rooms
 pub mod Machines
+pub mod Notes
 pub mod Passes
 pub mod Stamping
+pub mod Holding
+pub mod Sweeping
 pub mod Closing

@@ -2,7 +2,7 @@
 use Rattle.std.specs.Prelude.{◌≡◌, ℕ, ◌+◌, ◌^◌, List, [], length, slice_index_or}
 use Rattle.eleos_base.specs.declared.plan.Plan.{Plan}
 use Rattle.eleos_core.specs.Parts.{Part, no_part, part_at}
-use Rattle.eleos_core.specs.Places.{all_frames, all_pages}
+use Rattle.eleos_base.specs.Places.{all_frames, all_pages}
 use Rattle.eleos_core.specs.Seals.{Seals, seals_by}
 use Rattle.eleos_plot.specs.declared.plot.Ground.{Ground}
 use Rattle.eleos_plot.specs.Histories.{IsOpening}
@@ -17,6 +17,7 @@ Site = Home Part Ground
 abbrev pub plan_at : Site → Plan
 plan_at z = z.base.grounds.plan
 
+-- how the machine seals: by the key that was fixed when it was made
 abbrev pub seals_at : Site → Seals
 seals_at z = seals_by z.base.grounds.key
 

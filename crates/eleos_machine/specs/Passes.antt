@@ -14,15 +14,17 @@ use Rattle.eleos_plot.specs.Histories.{IsMachineRun, history_of, part_after}
 use Rattle.eleos_plot.specs.Terms.{core_terms}
 use Rattle.eleos_turn.specs.Hands.{Goes, HandState, IsSound, Took, without_turn}
 use Rattle.eleos_machine.specs.Machines.{IsMachine, plan_at, seals_at}
+use Rattle.eleos_machine.specs.Notes.{Sweep, no_sweep}
 
--- a pass: its hand at the machine's turnstile, and the entry that it is to stamp next
+-- a pass: its hand at the machine's turnstile, the entry that it is to stamp next, and what it noted in its search among frames
 pub record PassState : Type 0 where
   pub hand : HandState Stamp Part Ground
   pub draft : Stamp
+  pub sweep : Sweep
 
 -- the pass of a hand that was just dealt
 abbrev pub new_pass : HandState Stamp Part Ground → PassState
-new_pass hand = record { hand = hand; draft = blank_stamp }
+new_pass hand = record { hand = hand; draft = blank_stamp; sweep = no_sweep }
 
 -- the number of the last of these entries, each with its stamp, and 0 where there is none
 abbrev pub last_stamp : List (ℕ × Stamp) → ℕ
@@ -34,6 +36,7 @@ last_stamp (one ∷ other ∷ more) = last_stamp (other ∷ more)
 abbrev pub plan_of : PassState → Plan
 plan_of s = plan_at s.hand.home
 
+-- how the machine of the pass seals
 abbrev pub seals_of : PassState → Seals
 seals_of s = seals_at s.hand.home
 

@@ -1,5 +1,7 @@
 -- When a pass may stamp its draft, and what the stamp does.
-use Rattle.std.specs.Prelude.{◌≡◌, ℕ, ◌<◌, List, [], ◌∷◌, length}
+use Rattle.std.specs.Prelude.{◌≡◌, ℕ, ◌<◌, List, [], ◌∷◌, length, true}
+use Rattle.eleos_core.specs.declared.event.Event.{Event}
+use Rattle.eleos_core.specs.declared.event.Event.TheVariants.{Starved, Survey}
 use Rattle.eleos_base.specs.Ties.{Has, adds, takes}
 use Rattle.eleos_core.specs.Legal.{CoreStep}
 use Rattle.eleos_core.specs.Parts.{MayStep, Part, Stamp, after_at, foot}
@@ -9,6 +11,7 @@ use Rattle.eleos_plot.specs.Histories.{kept_by}
 use Rattle.eleos_plot.specs.Terms.{bare_of, core_terms, tie_of}
 use Rattle.eleos_turn.specs.Hands.{Goes, HandState, Stamped, links_on, part_of}
 use Rattle.eleos_turn.specs.Numbers.{times}
+use Rattle.eleos_machine.specs.Notes.{after_entry}
 use Rattle.eleos_machine.specs.Passes.{PassState, part_seen, plan_of, seals_of, seen}
 
 -- what an entry of a hand makes of the parts of the cells that it touches
@@ -19,6 +22,12 @@ kept_of h d = kept_by h.home.base.grounds (part_of core_terms h) d
 abbrev pub kept : PassState → List (ℕ × Part)
 kept s = kept_by s.hand.home.base.grounds (part_seen s) s.draft
 
+-- the words of an event are those that the pass noted, in a search that it began after its last stamp, or after its last survey
+abbrev pub IsOwnSweep : PassState → Event → Type 0
+IsOwnSweep s (Starved wanted sweep) = (sweep ≡ s.sweep.words) × (s.sweep.since_stamp ≡ true)
+IsOwnSweep s (Survey e goal sweep) = (sweep ≡ s.sweep.words) × (s.sweep.since_survey ≡ true)
+IsOwnSweep s _ = Unit {0}
+
 -- the pass may stamp its draft
 pub record MayStamp (s : PassState) : Type 0 where
   pub own : s.draft.entry.who ≡ s.hand.number
@@ -26,6 +35,7 @@ pub record MayStamp (s : PassState) : Type 0 where
   -- it has the turns of the cells that the entry touches, and the entry is legal on what it has seen of them
   pub turns : (c : ℕ) → Has c (foot (plan_of s) s.draft) → Has c s.hand.turns
   pub legal : MayStep (plan_of s) (seals_of s) s.draft (part_seen s)
+  pub sweep : IsOwnSweep s s.draft.entry.event
   -- nobody links the page that leaves its frame: its turn was taken without pins, and the pass has no link there
   pub bare : (c : ℕ) → Has c (bare_of (plan_of s) s.draft.entry.event) → Has c s.hand.clean × (links_on core_terms s.hand c ≡ 0)
   -- a link that it adds is covered by a pin that covers no other, and one that it takes off is there
@@ -34,8 +44,8 @@ pub record MayStamp (s : PassState) : Type 0 where
 
 -- the draft was stamped: it is the entry of the history at the place n, and the pass's only new one
 pub record HasStamped (s : PassState) (n : ℕ) (s' : PassState) : Type 0 where
-  -- all but the hand stays
-  pub rest : s' ≡ record s { hand = s'.hand }
+  -- all but the hand stays, and the notes are older by an entry
+  pub rest : s' ≡ record s { hand = s'.hand; sweep = after_entry s.draft.entry.event s.sweep }
   pub stamped : Stamped core_terms s.draft (kept s) s.hand n s'.hand
   pub goes : Goes core_terms s.hand s'.hand ((n, s.draft) ∷ [])
   -- the entries before it, after which it is legal

@@ -6,14 +6,14 @@ ghost use Rattle.eleos_core.specs.Applying.{Shows};
 ghost use Rattle.eleos_core.specs.Cells.{IsPage, IsUse, part_of_frame, part_of_page};
 ghost use Rattle.eleos_core.specs.Parts.{alloc_part, clock_part};
 ghost use Rattle.eleos_core.specs.declared.cells.frame.Frame.{Frame as Frames};
-ghost use Rattle.eleos_core.specs.Places.{all_frames, all_pages};
+ghost use Rattle.eleos_base.specs.Places.{all_frames, all_pages};
 ghost use Rattle.eleos_core.specs.Seals.{Seals};
 ghost use Rattle.eleos_plot.specs.Cells.{part_of_cell};
 ghost use Rattle.eleos_machine.specs.Machines.{AreOpening};
 
 use eleos_base::{NoMemory, Plan};
 use eleos_core::{Alloc, Clock, Core, CoreCells, Frame, Page};
-use eleos_plot::{BlockList, Cell};
+use eleos_plot::{BlockList, Cell, FrameList};
 use std::alloc::Global;
 
 /// The alloc cells, the clock cells with the pool's last, the pages and the frames.
@@ -61,6 +61,7 @@ fn add_clocks(cells: &mut Vec<Cell>, clocks: Vec<Clock>) -> Result<(), NoMemory>
         ≡ map part_of_cell cells.old.items ++ map clock_part clocks.items) }
 {
     for clock in clocks {
+        let clock = FrameList::make(clock)?;
         cells.push(Cell::Clock { clock, hand: 0 })?;
     }
     Ok(())

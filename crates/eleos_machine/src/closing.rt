@@ -1,14 +1,17 @@
 // A machine is closed, with all its passes.
-ghost use Rattle.std.specs.Prelude.{vec_capacity, ◌≡◌, ◌+◌, ◌<◌, ◌≤◌, [], ◌∷◌, ◌++◌, length, IsOk, IfOk, IfErr, None, Some, IsTrue};
+ghost use Rattle.std.specs.Prelude.{vec_capacity, ◌≡◌, ◌+◌, ◌<◌, ◌≤◌, [], ◌∷◌, ◌++◌, length, IsOk};
+ghost use Rattle.std.specs.Prelude.{IfOk, IfErr, None, Some, IsTrue};
 ghost use Rattle.eleos_turn.specs.Closings.{AllOf, IsWhole};
 ghost use Rattle.eleos_plot.specs.Terms.{core_terms};
 ghost use Rattle.eleos_turn.specs.Hands.{entries};
-ghost use Rattle.eleos_machine.specs.Closing.{AllOfMachine, HasClosed, close_fault, first_with, hands_of, has_all};
+ghost use Rattle.eleos_machine.specs.Closing.{AllOfMachine, HasClosed, close_fault, first_with};
+ghost use Rattle.eleos_machine.specs.Closing.{hands_of, has_all};
 ghost use Rattle.eleos_machine.specs.Closing.{has_foreign, has_link, has_number, has_turn};
 ghost use Rattle.eleos_machine.specs.Machines.{IsMachine, all_passes, plan_at};
 ghost use Rattle.eleos_machine.specs.Passes.{last_stamp};
 
 use crate::machine::Machine;
+use crate::notes::Notes;
 use crate::pass::Pass;
 use eleos_base::Sealer;
 use eleos_plot::{CorePlot, Draft};
@@ -36,7 +39,8 @@ pub struct CloseRefused<S: Sealer> {
 }
 
 impl<S: Sealer + Drop> Machine<S> {
-    /// Ends the machine, and gives a pass that has seen the whole history. It is refused exactly where
+    /// Ends the machine, and gives a pass that has seen the whole history. It is refused exactly
+    /// where
     /// there is a fault; then all is handed back. Takes no memory.
     pub fn close(self, passes: Vec<Pass>) -> Result<Pass, CloseRefused<S>>
         requires own { AllOfMachine self passes.items }
@@ -58,8 +62,14 @@ impl<S: Sealer + Drop> Machine<S> {
             turnstile,
             plan: _plan,
             sealer: _sealer,
+            first_frame: _first_frame,
         } = self;
-        let PartedPasses { hands, draft, room } = parted(&turnstile, passes);
+        let PartedPasses {
+            hands,
+            draft,
+            notes,
+            room,
+        } = parted(&turnstile, passes);
         let Ok(
             Closed {
                 hand,
@@ -72,6 +82,7 @@ impl<S: Sealer + Drop> Machine<S> {
         Ok(Pass {
             hand,
             draft,
+            notes,
             last: 0,
             room,
         })
@@ -139,10 +150,11 @@ fn has_turn(pass: &Pass) -> bool
     pass.hand.turns() != 0
 }
 
-/// The hands of passes, and the room and the draft of one.
+/// The hands of passes, and the room, the draft and the notes of one.
 struct PartedPasses {
     hands: Vec<Hand<CorePlot>>,
     draft: Draft,
+    notes: Notes,
     room: Vec<Hand<CorePlot>>,
 }
 
@@ -162,19 +174,26 @@ fn parted(_turnstile: &Turnstile<CorePlot>, passes: Vec<Pass>) -> PartedPasses
     let Pass {
         hand: last,
         draft: _draft,
+        notes: _notes,
         last: _last,
         room: hands,
     } = last;
     let Pass {
         hand: other,
         draft,
+        notes,
         last: _last,
         room,
     } = other;
     let hands = with_hands(hands, passes);
     let hands = with_hand(hands, other);
     let hands = with_hand(hands, last);
-    PartedPasses { hands, draft, room }
+    PartedPasses {
+        hands,
+        draft,
+        notes,
+        room,
+    }
 }
 
 /// The hands of the passes, in the room for them.

@@ -9,7 +9,8 @@ use eleos_base::Looked;
 use eleos_plot::{EventRef, ReplyRef};
 
 impl Pass {
-    /// Makes the draft this entry of the pass, with no blocks, with an empty sweep, and with no length.
+    /// Makes the draft this entry of the pass, with no blocks, with an empty sweep, and with no
+    /// length.
     pub fn set(&mut self, event: EventRef<'_>, reply: ReplyRef<'_>)
         requires written { length (event_bytes event) ≤ 8192 }
         requires text { length (reply_bytes reply) ≤ 1024 }

@@ -25,7 +25,8 @@ pub(crate) fn enter<P: Plot + Keeps>(
 ) -> u64
     requires own { hand.old.home ≡ turnstile.now }
     requires can { CanStamp P.terms hand.old draft.now (P.kept hand.old draft.now) }
-    ensures stamped { Stamped P.terms draft.now (P.kept hand.old draft.now) hand.old result hand.new }
+    ensures stamped { Stamped P.terms draft.now
+        (P.kept hand.old draft.now) hand.old result hand.new }
     ensures sound { IsSound P.terms hand.new }
 {
     turnstile.stamp(hand, draft)

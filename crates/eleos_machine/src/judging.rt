@@ -1,37 +1,15 @@
 // Which plans a machine can be made of.
 ghost use Rattle.std.specs.Prelude.{◌≡◌, ◌≤◌, ◌<◌, ◌↔◌, All, IsNone, length};
-ghost use Rattle.eleos_base.specs.Plain.{subs_for};
 ghost use Rattle.eleos_base.specs.Plans.{AreGoodPages};
-ghost use Rattle.eleos_machine.specs.Judging.{CanBeMade, all_frames_of, all_pages_of, are_at_home, are_blocks_good};
-ghost use Rattle.eleos_machine.specs.Judging.{are_callers_good, are_pages_good, finds_room, have_some_pages};
+ghost use Rattle.eleos_machine.specs.Judging.{CanBeMade, all_frames_of, all_pages_of};
+ghost use Rattle.eleos_machine.specs.Judging.{are_at_home, are_blocks_good, are_callers_good};
+ghost use Rattle.eleos_machine.specs.Judging.{are_pages_good, finds_room, have_some_pages};
 ghost use Rattle.eleos_machine.specs.Judging.{is_block_good, may_own, plan_fault};
-ghost use Rattle.eleos_machine.specs.Rooms.{free_behind};
 
-use eleos_base::{BlockPlan, EnclavePlan, PAGE_BYTES, Plan, SUB_BYTES};
-
-/// Enclaves of a machine.
-const MOST_ENCLAVES: usize = 8;
-
-/// Pages of an enclave.
-const MOST_PAGES: u32 = 1024;
-
-/// Pages of a machine.
-const MOST_PAGES_IN_ALL: u64 = 4096;
-
-/// Frames of a machine, those of the pool included.
-const MOST_FRAMES: u64 = 512;
-
-/// Callers of a machine.
-const MOST_CALLERS: usize = 8;
-
-/// How often a sub-page may be sealed.
-const MOST_WEAR: u64 = 1 << 63;
-
-/// Header blocks of a machine.
-const MOST_BLOCKS: usize = 256;
-
-/// Bytes of a block.
-const MOST_BLOCK: u32 = 65_536;
+use eleos_base::{
+    BlockPlan, EnclavePlan, MOST_BLOCK_BYTES, MOST_CALLERS, MOST_ENCLAVES, MOST_FRAMES,
+    MOST_HEADER_BLOCKS, MOST_PAGES, MOST_PAGES_IN_ALL, MOST_WEAR, Plan, free_behind, subs_for,
+};
 
 /// A field of a plan, in the order in which they are judged.
 #[derive(Clone, Copy, Debug, PartialEq, Eq)]
@@ -56,13 +34,13 @@ pub fn fault_of(plan: &Plan) -> Option<PlanField>
 fn first_fault(plan: &Plan) -> Option<PlanField>
     ensures { result ≡ plan_fault plan.now }
 {
-    if plan.enclaves.len() == 0 || plan.enclaves.len() > MOST_ENCLAVES {
+    if plan.enclaves.len() == 0 || plan.enclaves.len() > MOST_ENCLAVES as usize {
         return Some(PlanField::Enclaves);
     }
     if !are_pages_good(plan) {
         return Some(PlanField::Pages);
     }
-    if all_frames_of(plan) > MOST_FRAMES {
+    if all_frames_of(plan) > u64::from(MOST_FRAMES) {
         return Some(PlanField::Frames);
     }
     if !are_callers_good(plan) {
@@ -82,7 +60,7 @@ fn are_pages_good(plan: &Plan) -> bool
     requires { length plan.now.enclaves ≤ 8 }
     ensures { result ≡ are_pages_good plan.now }
 {
-    have_some_pages(plan.enclaves.as_slice()) && all_pages_of(plan) <= MOST_PAGES_IN_ALL
+    have_some_pages(plan.enclaves.as_slice()) && all_pages_of(plan) <= u64::from(MOST_PAGES_IN_ALL)
 }
 
 /// Whether each enclave has 1 to 1,024 pages.
@@ -121,7 +99,9 @@ fn are_callers_good(plan: &Plan) -> bool
     ensures { result ≡ are_callers_good plan.now }
 {
     let count = plan.callers.len();
-    1 <= count && count <= MOST_CALLERS && are_at_home(plan.callers.as_slice(), plan.enclaves.len())
+    1 <= count
+        && count <= MOST_CALLERS as usize
+        && are_at_home(plan.callers.as_slice(), plan.enclaves.len())
 }
 
 /// Whether each of these is one of so many enclaves.
@@ -139,7 +119,7 @@ fn are_blocks_good(plan: &Plan) -> bool
     ensures { result ≡ are_blocks_good plan.now }
 {
     let blocks = plan.blocks.as_slice();
-    if blocks.len() > MOST_BLOCKS {
+    if blocks.len() > MOST_HEADER_BLOCKS as usize {
         return false;
     }
     for (i, block) in blocks.iter().enumerate() {
@@ -157,7 +137,7 @@ fn is_block_good(plan: &Plan, before: &[BlockPlan], block: &BlockPlan) -> bool
     ensures { result ≡ is_block_good plan.now before.now block.now }
 {
     1 <= block.bytes
-        && block.bytes <= MOST_BLOCK
+        && block.bytes <= MOST_BLOCK_BYTES
         && (block.enclave as usize) < plan.enclaves.len()
         && may_own(plan, block)
         && finds_room(plan, before, block)
@@ -174,8 +154,7 @@ fn may_own(plan: &Plan, block: &BlockPlan) -> bool
     plan.callers.as_slice().get(place).copied() == Some(block.enclave)
 }
 
-/// Whether the block finds a free run. Header blocks are never freed, so they stand one behind the other
-/// from their enclave's start on, and all that is free is behind them.
+/// Whether the block finds a free run: all that is free is behind the blocks before it.
 fn finds_room(plan: &Plan, before: &[BlockPlan], block: &BlockPlan) -> bool
     requires pages { AreGoodPages plan.now.enclaves }
     requires enclave { block.now.enclave < length plan.now.enclaves }
@@ -184,26 +163,4 @@ fn finds_room(plan: &Plan, before: &[BlockPlan], block: &BlockPlan) -> bool
     ensures { result ≡ finds_room plan.now before.now block.now }
 {
     subs_for(block.bytes) <= free_behind(plan, before, block.enclave)
-}
-
-/// The sub-pages of the enclave that are behind these blocks.
-fn free_behind(plan: &Plan, blocks: &[BlockPlan], enclave: u16) -> u32
-    requires pages { AreGoodPages plan.now.enclaves }
-    requires enclave { enclave < length plan.now.enclaves }
-    ensures { result ≡ free_behind plan.now enclave blocks.now }
-{
-    let mut free = PAGE_BYTES * plan.enclaves.as_slice()[enclave as usize].pages / SUB_BYTES;
-    for block in blocks {
-        if block.enclave == enclave && subs_for(block.bytes) <= free {
-            free -= subs_for(block.bytes);
-        }
-    }
-    free
-}
-
-/// The sub-pages that so many bytes take.
-fn subs_for(bytes: u32) -> u32
-    ensures { result ≡ subs_for 1024 bytes }
-{
-    bytes.div_ceil(SUB_BYTES)
 }

@@ -12,6 +12,8 @@ ghost use Rattle.eleos_machine.specs.Passes.{last_stamp, new_pass};
 use crate::cells::opening_cells;
 use crate::judging::{PlanField, fault_of};
 use crate::machine::Machine;
+use crate::notes::Notes;
+use crate::numbers::first_frame;
 use crate::opening::open;
 use crate::pass::Pass;
 use eleos_base::{NoMemory, Plan, Sealer};
@@ -36,7 +38,8 @@ impl From<NoMemory> for MakeRefused {
 }
 
 impl<S: Sealer + Drop> Machine<S> {
-    /// Makes the machine of a plan, with its passes: those of the callers first, then the swapper's and
+    /// Makes the machine of a plan, with its passes: those of the callers first, then the swapper's
+    /// and
     /// the balloon's. All room for later calls is taken here.
     pub fn make(
         alloc: Global,
@@ -79,6 +82,7 @@ fn make_good<S: Sealer + Drop>(
         turnstile,
         plan: plan.copy(alloc)?,
         sealer,
+        first_frame: first_frame(plan),
     };
     Ok((machine, passes))
 }
@@ -102,6 +106,7 @@ fn passes_of(
         passes.push(Pass {
             hand,
             draft: Draft::make(alloc, plan)?,
+            notes: Notes::make(alloc)?,
             last: 0,
             room: Vec::with_capacity(alloc, count as usize)?,
         })?;

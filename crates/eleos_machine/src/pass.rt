@@ -4,6 +4,8 @@ ghost use Rattle.eleos_plot.specs.Terms.{core_terms};
 ghost use Rattle.eleos_turn.specs.Hands.{entries};
 ghost use Rattle.eleos_machine.specs.Passes.{IsLawful, last_stamp};
 
+use crate::notes::Notes;
+use eleos_base::Looked;
 use eleos_plot::{CorePlot, Draft};
 use eleos_turn::{Hand, Refused, RestHand};
 use std::marker::Model;
@@ -14,6 +16,8 @@ use std::marker::Model;
 pub struct Pass {
     pub(crate) hand: Hand<CorePlot>,
     pub(crate) draft: Draft,
+    /// What it noted in its last search among frames.
+    pub(crate) notes: Notes,
     /// The place in the history of the entry that it stamped last.
     pub(crate) last: u64,
     /// Room for the hands of all passes of its machine, which `close` takes in.
@@ -29,9 +33,11 @@ impl Model for Pass {
 
     ghost Value = { PassState };
 
-    ghost view = { λ p. record { hand = p.hand; draft = p.draft } };
+    ghost view = { λ p. record { hand = p.hand; draft = p.draft; sweep = p.notes } };
 
-    ghost invariant = { λ p. IsMachine p.hand.home × (p.last ≡ last_stamp (entries core_terms p.hand)) × (p.room.items ≡ []) × (all_passes (plan_at p.hand.home) ≤ vec_capacity p.room) };
+    ghost invariant = { λ p. IsMachine p.hand.home
+        × (p.last ≡ last_stamp (entries core_terms p.hand)) × (p.room.items ≡ [])
+        × (all_passes (plan_at p.hand.home) ≤ vec_capacity p.room) };
 }
 
 /// A pass that has no turn, in a form that can lie in a cell of another turnstile.
@@ -39,6 +45,7 @@ impl Model for Pass {
 pub struct RestPass {
     hand: RestHand<CorePlot>,
     draft: Draft,
+    notes: Notes,
     last: u64,
     room: Vec<Hand<CorePlot>>,
 }
@@ -52,13 +59,16 @@ impl Model for RestPass {
 
     ghost Value = { PassState };
 
-    ghost view = { λ p. record { hand = p.hand; draft = p.draft } };
+    ghost view = { λ p. record { hand = p.hand; draft = p.draft; sweep = p.notes } };
 
-    ghost invariant = { λ p. IsMachine p.hand.home × (p.last ≡ last_stamp (entries core_terms p.hand)) × (p.room.items ≡ []) × (all_passes (plan_at p.hand.home) ≤ vec_capacity p.room) };
+    ghost invariant = { λ p. IsMachine p.hand.home
+        × (p.last ≡ last_stamp (entries core_terms p.hand)) × (p.room.items ≡ [])
+        × (all_passes (plan_at p.hand.home) ≤ vec_capacity p.room) };
 }
 
 impl Pass {
-    /// Its number: 1 to n for the callers, n + 1 for the swapper, n + 2 for the balloon, and 0 for the
+    /// Its number: 1 to n for the callers, n + 1 for the swapper, n + 2 for the balloon, and 0 for
+    /// the
     /// pass that `close` gives.
     pub fn who(&self) -> u32
         ensures { result ≡ self.now.hand.number }
@@ -88,6 +98,13 @@ impl Pass {
         self.hand.refused()
     }
 
+    /// The words that it noted in its last search among frames, in order.
+    pub fn sweep(&self) -> &[Looked]
+        ensures { result.now ≡ self.now.sweep.words }
+    {
+        self.notes.words()
+    }
+
     /// Puts the pass to rest.
     pub fn rest(self) -> RestPass
         requires { self.hand.turns ≡ [] }
@@ -98,12 +115,14 @@ impl Pass {
         let Pass {
             hand,
             draft,
+            notes,
             last,
             room,
         } = self;
         RestPass {
             hand: hand.rest(),
             draft,
+            notes,
             last,
             room,
         }
@@ -120,12 +139,14 @@ impl RestPass {
         let RestPass {
             hand,
             draft,
+            notes,
             last,
             room,
         } = self;
         Pass {
             hand: hand.wake(),
             draft,
+            notes,
             last,
             room,
         }

@@ -104,7 +104,8 @@ impl<S: Sealer> Machine<S> {
         ensures noted { pass.new ≡ record pass.old { hand = looked_at pass.old.hand cell result } }
         ensures busy { Has cell pass.old.hand.turns → IsBusy result }
         ensures pins { times cell pass.old.hand.pins ≤ pins_in result }
-        ensures clean { Has cell pass.old.hand.clean → pins_in result ≡ times cell pass.old.hand.pins }
+        ensures clean { Has cell pass.old.hand.clean
+            → pins_in result ≡ times cell pass.old.hand.pins }
         ensures plain { IsPlain result }
     {
         self.turnstile.look(&mut pass.hand, cell)
@@ -120,6 +121,7 @@ impl<S: Sealer> Machine<S> {
         let _ = pass.left();
         let place = enter::<CorePlot>(&self.turnstile, &mut pass.hand, &pass.draft);
         pass.last = place;
+        pass.notes.age(pass.draft.is_survey());
         place
     }
 }

@@ -1,6 +1,6 @@
 -- A value that has the part which a legal history made of a cell is fit for that cell.
-use Rattle.std.proofs.Common.{◌≡◌, ℕ, zero, suc, ◌+◌, ◌*◌, ◌<◌, ◌≤◌, ◌==◌, ◌&&◌, List, [], ◌∷◌, length, map, Bool, true, false, Option, Some, None, is_some, Contains, if◌then◌else◌, refl, sym, ◌∙◌, subst, ap, arith}
-use Rattle.std.specs.List.{AllByRecursion, range_with_len}
+use Rattle.std.proofs.Common.{◌≡◌, ℕ, zero, suc, ◌+◌, ◌*◌, ◌<◌, ◌≤◌, ◌==◌, ◌&&◌, List, [], ◌∷◌, length, map, Bool, true, false, Option, Some, None, is_some, Contains, nat_eq, if◌then◌else◌, refl, sym, ◌∙◌, subst, ap, arith}
+use Rattle.std.specs.List.{AllByRecursion, IsDistinct, range_with_len}
 use Rattle.std.proofs.lemmas.Bool.{eqb-true, eq-eqb}
 use Rattle.std.proofs.lemmas.Bool.Decides.{Decides-eqb}
 use Rattle.std.proofs.lemmas.List.{length-map}
@@ -23,21 +23,21 @@ use Rattle.eleos_core.specs.Cells.{IsPage, IsPresent, IsSubPage, IsUse, frame_of
 use Rattle.eleos_core.specs.Legal.{CoreRun, IsOwner, IsWithin}
 use Rattle.eleos_core.specs.Order.{AreInOrder}
 use Rattle.eleos_core.specs.Parts.{Part, SubPart, no_part, alloc_part, clock_part, frame_part, page_part, frame_in, holder_in, list_in, live_in, owner_in, part_of, sub_part, subs_in}
-use Rattle.eleos_core.specs.Places.{Owner, all_frames, all_pages, per_page, subs, subs_of}
+use Rattle.eleos_base.specs.Places.{Owner, all_frames, all_pages, per_page, subs, subs_of}
 use Rattle.eleos_core.specs.Seals.{Seals, seals_by}
 use Rattle.eleos_core.specs.State.{History, frame, frame_by, frames_of, holder, holder_by, is_dirty, is_present, live, owner, version}
 use Rattle.eleos_core.proofs.CellNumbers.{by_cell}
 use Rattle.eleos_core.proofs.Numbers.{page_within}
 use Rattle.eleos_core.proofs.Ordered.{in_order, none_empty}
-use Rattle.eleos_core.proofs.Owners.{listed_is_owned}
+use Rattle.eleos_core.proofs.Owners.{frames_distinct, listed_is_owned}
 use Rattle.eleos_core.proofs.Pieces.{length-sub_parts}
 use Rattle.eleos_core.proofs.Shares.{owner_of_plan}
 use Rattle.eleos_core.proofs.Tests.{by_test}
 use Rattle.eleos_core.proofs.Versions.{CanSeal, can_seal}
 use Rattle.eleos_plot.specs.declared.cell.Cell.{Cell}
 use Rattle.eleos_plot.specs.declared.cell.Cell.TheVariants.{Alloc, Clock, Page, Frame}
-use Rattle.eleos_plot.specs.Cells.{has_page_bytes, has_zeros, part_of_cell}
-use Rattle.eleos_plot.specs.Fits.{Fits, IsAllocOf, IsClock, IsFrameCell, IsPageCell}
+use Rattle.eleos_plot.specs.Cells.{has_page_bytes, has_zeros, is_hand_within, part_of_cell}
+use Rattle.eleos_plot.specs.Fits.{AreFrames, Fits, IsAllocOf, IsClock, IsFrameCell, IsPageCell}
 use Rattle.eleos_plot.specs.Laws.{CellsFit, CellsShow}
 
 -- what a test of a page's bytes says, where it decides whether there is a part
@@ -48,6 +48,10 @@ whole false q f us is = cc
 clean : (b : Bool) (q : Part) (o : Owner) (p : Option ℕ) → (if b then q else no_part) ≡ frame_part o p → (b ≡ true) × (q ≡ frame_part o p)
 clean true q o p is = (refl, is)
 clean false q o p is = cc
+
+listed : (b : Bool) (q : Part) (fs : List ℕ) → (if b then q else no_part) ≡ clock_part fs → (b ≡ true) × (q ≡ clock_part fs)
+listed true q fs is = (refl, is)
+listed false q fs is = cc
 
 present_whole : (present : Option Present) (frames : ℕ) → has_page_bytes present ≡ true → ((f : ℕ) → frame_of_page present ≡ Some f → f < frames) → IsPresent frames present
 present_whole None frames holds within = tt
@@ -66,6 +70,7 @@ zeros_of_use : (used : Use) (pages : ℕ) → IsUse pages used → has_zeros use
 zeros_of_use (Free bytes) pages is = (slice_eq-Decides Decides-eqb bytes.items (zeros page_bytes) (has_zeros (Free bytes)) refl).1 is
 zeros_of_use (Lent page) pages is = refl
 
+-- a page and a frame that are fit for the machine have their parts as cells
 pub cells_show : CellsShow
 cells_show k = record {
   pages = λ page is. ap (λ v. if v then part_of_page page else no_part) (bytes_of_present page.present (all_frames k) is.present);
@@ -149,15 +154,22 @@ module _ (k : Plan) (x : Seals) where
       owner = subst (λ (o : Owner). IsOwner k o) (sym (ap (λ (q : Part). owner_in q) is)) (owner_of_plan k x past run f);
     }
 
+    frames_fit : (o : Owner) (frames : List ℕ) (hand : ℕ) → is_hand_within frames hand ≡ true → frames ≡ frames_of k past o → AreFrames k frames hand
+    frames_fit o frames hand holds is = record {
+      within = λ f has. (listed_is_owned k x past run o f (subst (λ fs. Contains fs f) is has)).0;
+      once = subst (IsDistinct nat_eq) (sym is) (frames_distinct k x past run o);
+      hand_within = holds;
+    }
+
     -- each kind of cell
     alloc_fits : IsGood k → (e : ℕ) (value : Cell) → e < length k.enclaves → part_of_cell value ≡ alloc_part (live k past e) → IsAllocOf k e value
     alloc_fits good e (Alloc blocks) inside is = subst (AreInOrder 0 (subs k e)) (sym (ap (λ (q : Part). live_in q) is)) (in_order k x (none_empty k good) past run e inside)
-    alloc_fits good e (Clock frames hand) inside is = cc
+    alloc_fits good e (Clock frames hand) inside is = by_test (is_hand_within frames hand) (λ v. (if v then clock_part frames else no_part) ≡ alloc_part (live k past e) → ⊥) (λ _ h. cc) (λ _ h. cc) is
     alloc_fits good e (Page page) inside is = by_test (has_page_bytes page.present) (λ v. (if v then part_of_page page else no_part) ≡ alloc_part (live k past e) → ⊥) (λ _ h. cc) (λ _ h. cc) is
     alloc_fits good e (Frame frame) inside is = by_test (has_zeros frame.used) (λ v. (if v then part_of_frame frame else no_part) ≡ alloc_part (live k past e) → ⊥) (λ _ h. cc) (λ _ h. cc) is
 
     clock_fits : (o : Owner) (value : Cell) → part_of_cell value ≡ clock_part (frames_of k past o) → IsClock k value
-    clock_fits o (Clock frames hand) is = λ f listed. (listed_is_owned k x past run o f (subst (λ fs. Contains fs f) (ap (λ (q : Part). list_in q) is) listed)).0
+    clock_fits o (Clock frames hand) is = let both = listed (is_hand_within frames hand) (clock_part frames) (frames_of k past o) is in frames_fit o frames hand both.0 (ap list_in both.1)
     clock_fits o (Alloc blocks) is = cc
     clock_fits o (Page page) is = by_test (has_page_bytes page.present) (λ v. (if v then part_of_page page else no_part) ≡ clock_part (frames_of k past o) → ⊥) (λ _ h. cc) (λ _ h. cc) is
     clock_fits o (Frame frame) is = by_test (has_zeros frame.used) (λ v. (if v then part_of_frame frame else no_part) ≡ clock_part (frames_of k past o) → ⊥) (λ _ h. cc) (λ _ h. cc) is
@@ -165,15 +177,16 @@ module _ (k : Plan) (x : Seals) where
     page_cell_fits : (p : ℕ) (value : Cell) → part_of_cell value ≡ page_part (frame past p) (map (sub_part k x past) (subs_of k p)) → IsPageCell k value
     page_cell_fits p (Page page) is = let both = whole (has_page_bytes page.present) (part_of_page page) (frame past p) (map (sub_part k x past) (subs_of k p)) is in page_fits p page both.0 both.1
     page_cell_fits p (Alloc blocks) is = cc
-    page_cell_fits p (Clock frames hand) is = cc
+    page_cell_fits p (Clock frames hand) is = by_test (is_hand_within frames hand) (λ v. (if v then clock_part frames else no_part) ≡ page_part (frame past p) (map (sub_part k x past) (subs_of k p)) → ⊥) (λ _ h. cc) (λ _ h. cc) is
     page_cell_fits p (Frame other) is = by_test (has_zeros other.used) (λ v. (if v then part_of_frame other else no_part) ≡ page_part (frame past p) (map (sub_part k x past) (subs_of k p)) → ⊥) (λ _ h. cc) (λ _ h. cc) is
 
     frame_cell_fits : (f : ℕ) (value : Cell) → part_of_cell value ≡ frame_part (owner k past f) (holder past f) → IsFrameCell k value
     frame_cell_fits f (Frame frame) is = let both = clean (has_zeros frame.used) (part_of_frame frame) (owner k past f) (holder past f) is in frame_fits f frame both.0 both.1
     frame_cell_fits f (Alloc blocks) is = cc
-    frame_cell_fits f (Clock frames hand) is = cc
+    frame_cell_fits f (Clock frames hand) is = by_test (is_hand_within frames hand) (λ v. (if v then clock_part frames else no_part) ≡ frame_part (owner k past f) (holder past f) → ⊥) (λ _ h. cc) (λ _ h. cc) is
     frame_cell_fits f (Page page) is = by_test (has_page_bytes page.present) (λ v. (if v then part_of_page page else no_part) ≡ frame_part (owner k past f) (holder past f) → ⊥) (λ _ h. cc) (λ _ h. cc) is
 
+-- a value that has the part which a legal history made of a cell is fit for that cell
 pub cells_fit : CellsFit
 cells_fit k key past c value run is =
     let x : Seals = seals_by key in

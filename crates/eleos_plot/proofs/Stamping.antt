@@ -15,7 +15,7 @@ use Rattle.eleos_core.specs.declared.event.Event.TheVariants.{Op, Link, Unlink, 
 use Rattle.eleos_core.specs.Legal.{CoreRun, CoreStep}
 use Rattle.eleos_core.specs.PartLaws.{LinksAllow, PartsFollow}
 use Rattle.eleos_core.specs.Parts.{MayStep, Part, Stamp, after_at, foot, page_cell, part_at}
-use Rattle.eleos_core.specs.Places.{page_of, sub_of}
+use Rattle.eleos_base.specs.Places.{page_of, sub_of}
 use Rattle.eleos_core.specs.Seals.{Seals, seals_by}
 use Rattle.eleos_core.specs.State.{History, entry, links}
 use Rattle.eleos_core.proofs.Gluing.{has_or_not, len_is}
@@ -107,11 +107,13 @@ module _ (g : Ground) where
       (links_follow past made.who made.event made.blocks made.reply l ties) legal.1 in
       record { legal = rest.legal; parts = rest.parts; links = rest.links }
 
+-- a legal history of a turnstile over the machine's cells is a legal one of the machine, with the same parts and links
 pub plot_agrees : PlotAgrees
 plot_agrees b es opening legal =
     let run = runs_on b.grounds opening.good es [] _ no_link tt opening.parts (λ by p. refl) legal in
     record { legal = run.legal; parts = run.parts; links = run.links }
 
+-- what is kept by an entry that may be made is what it makes of the cells that it touches, and no other cell changes
 pub kept_is_made : KeptIsMade
 kept_is_made g before d may = record {
   cells = cells_of_map (after_at g.plan (seals_by g.key) d before) (foot g.plan d);
@@ -144,6 +146,7 @@ module _ (g : Ground) (past : History) (l : ℕ → ℕ → ℕ) (same : LinksAr
   taken_allowed who (Spoiled wanted) blocks reply step c is = cc
   taken_allowed who (Survey e goal sweep) blocks reply step c is = cc
 
+-- an entry that is legal on the machine after a turnstile's history may follow there, with what it makes of its cells
 pub plot_allows : PlotAllows
 plot_allows b es d opening legal step is_len =
     let g : Ground = b.grounds in

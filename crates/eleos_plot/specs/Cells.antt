@@ -1,5 +1,5 @@
 -- What the history fixes of a cell.
-use Rattle.std.specs.Prelude.{◌==◌, nat_eq, length, Bool, true, Option, Some, None, if◌then◌else◌}
+use Rattle.std.specs.Prelude.{ℕ, ◌==◌, ◌||◌, nat_eq, nat_lt, List, length, Bool, true, Option, Some, None, if◌then◌else◌}
 use Rattle.std.specs.Cmp.Lexicographic.{pointwise}
 use Rattle.eleos_base.specs.Plain.{zeros}
 use Rattle.eleos_base.specs.Plans.{page_bytes}
@@ -21,10 +21,15 @@ abbrev pub has_zeros : Use → Bool
 has_zeros (Free bytes) = pointwise nat_eq bytes.items (zeros page_bytes)
 has_zeros (Lent page) = true
 
--- the part of a cell: none where its bytes are not those of a page, or are not zero in a free frame.
--- So who knows a part knows this of the cell too. The clock's hand is in no part.
+-- the clock's hand is at one of these frames, or at the first place
+abbrev pub is_hand_within : List ℕ → ℕ → Bool
+is_hand_within frames hand = hand == 0 || nat_lt hand (length frames)
+
+-- the part of a cell: none where its bytes are not those of a page, or are not zero in a free frame, or
+-- where the clock's hand is at no frame. So who knows a part knows this of the cell too.
+-- Where within its frames the clock's hand is, no part says.
 abbrev pub part_of_cell : Cell → Part
 part_of_cell (Alloc blocks) = alloc_part blocks
-part_of_cell (Clock frames hand) = clock_part frames
+part_of_cell (Clock frames hand) = if is_hand_within frames hand then clock_part frames else no_part
 part_of_cell (Page page) = if has_page_bytes page.present then part_of_page page else no_part
 part_of_cell (Frame frame) = if has_zeros frame.used then part_of_frame frame else no_part

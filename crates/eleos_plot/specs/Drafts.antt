@@ -11,7 +11,8 @@ use Rattle.eleos_core.specs.declared.event.Wanted.{Wanted}
 use Rattle.eleos_core.specs.declared.event.Wanted.TheVariants as wanted
 use Rattle.eleos_core.specs.Parts.{Stamp}
 use Rattle.eleos_core.specs.State.{entry}
-use Rattle.eleos_plot.specs.declared.draft.TheConstants.{BLOCK_BYTES, MOST_BLOCKS, MOST_LOOKED, MOST_TEXT, MOST_WRITTEN}
+use Rattle.eleos_base.specs.declared.sizes.TheConstants.{MOST_WRITTEN}
+use Rattle.eleos_plot.specs.declared.draft.TheConstants.{BLOCK_BYTES, MOST_BLOCKS, MOST_LOOKED, MOST_TEXT}
 use Rattle.eleos_plot.specs.declared.draft.Draft.TheInside.{Inside}
 use Rattle.eleos_plot.specs.declared.kinds.EventKind.{EventKind}
 use Rattle.eleos_plot.specs.declared.kinds.EventKind.TheVariants.{Op, Link, Unlink, Fill, Evict, Move, Starved, Spoiled, Survey}
@@ -30,6 +31,7 @@ op_with written (Share at) = calls.Share at
 op_with written (Read at n) = calls.Read at n
 op_with written (Write at) = calls.Write at written
 
+-- what was wanted, a link or a call, where these bytes were to be written
 abbrev pub wanted_with : List ℕ → WantedKind → Wanted
 wanted_with written (ALink at) = wanted.Link at
 wanted_with written (ACall op) = wanted.Op (op_with written op)

@@ -1,5 +1,5 @@
 -- What the calls on a draft make of its entry.
-use Rattle.std.specs.Prelude.{ℕ, List, [], ◌∷◌, ◌++◌}
+use Rattle.std.specs.Prelude.{ℕ, List, [], ◌∷◌, ◌++◌, Bool, true, false}
 use Rattle.eleos_base.specs.declared.memory.Looked.{Looked}
 use Rattle.eleos_base.specs.declared.memory.Reply.{Reply}
 use Rattle.eleos_base.specs.declared.memory.Reply.TheVariants.{Done, NoFrame}
@@ -22,6 +22,7 @@ HasSweep (Starved wanted sweep) = Unit {0}
 HasSweep (Survey e goal sweep) = Unit {0}
 HasSweep _ = ⊥
 
+-- the words that an event's search among frames found, none where it has no sweep
 abbrev pub sweep_of : Event → List Looked
 sweep_of (Starved wanted sweep) = sweep
 sweep_of (Survey e goal sweep) = sweep
@@ -41,3 +42,8 @@ reply_looked reply word = reply
 -- one word more in the sweep of the entry
 abbrev pub with_looked : Stamp → Looked → Stamp
 with_looked d word = record d { entry = record d.entry { event = event_looked d.entry.event word; reply = reply_looked d.entry.reply word } }
+
+-- the event is the end of a search by swapper or balloon
+abbrev pub is_survey : Event → Bool
+is_survey (Survey e goal sweep) = true
+is_survey _ = false

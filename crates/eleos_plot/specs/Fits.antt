@@ -1,5 +1,6 @@
 -- What holds of a cell's value beyond its part: what code on the cell may rely on.
-use Rattle.std.specs.Prelude.{◌≡◌, ℕ, ◌<◌, Contains}
+use Rattle.std.specs.Prelude.{◌≡◌, ℕ, ◌<◌, List, nat_eq, true, Contains}
+use Rattle.std.specs.List.{IsDistinct}
 use Rattle.eleos_base.specs.declared.plan.Plan.{Plan}
 use Rattle.eleos_core.specs.declared.cells.frame.Frame.{Frame as Frames}
 use Rattle.eleos_core.specs.declared.cells.page.Page.{Page as Pages}
@@ -7,10 +8,10 @@ use Rattle.eleos_core.specs.Cells.{IsPage, IsUse, part_of_frame, part_of_page}
 use Rattle.eleos_core.specs.Legal.{IsOwner}
 use Rattle.eleos_core.specs.Order.{AreInOrder}
 use Rattle.eleos_core.specs.Parts.{Cell as Numbered, no_cell, the_alloc, the_clock, the_frame, the_page}
-use Rattle.eleos_core.specs.Places.{all_frames, all_pages, subs}
+use Rattle.eleos_base.specs.Places.{all_frames, all_pages, subs}
 use Rattle.eleos_plot.specs.declared.cell.Cell.{Cell}
 use Rattle.eleos_plot.specs.declared.cell.Cell.TheVariants.{Alloc, Clock, Page, Frame}
-use Rattle.eleos_plot.specs.Cells.{part_of_cell}
+use Rattle.eleos_plot.specs.Cells.{is_hand_within, part_of_cell}
 
 module _ (k : Plan) where
   -- an enclave's blocks, in order within it
@@ -18,9 +19,15 @@ module _ (k : Plan) where
   IsAllocOf e (Alloc blocks) = AreInOrder 0 (subs k e) blocks
   IsAllocOf e _ = ⊥
 
-  -- frames of the machine
+  -- frames of the machine, none twice, with the hand at one of them or at the first place
+  pub record AreFrames (frames : List ℕ) (hand : ℕ) : Type 0 where
+    pub within : (f : ℕ) → Contains frames f → f < all_frames k
+    pub once : IsDistinct nat_eq frames
+    pub hand_within : is_hand_within frames hand ≡ true
+
+  -- a clock, whose frames and hand are such
   abbrev pub IsClock : Cell → Type 0
-  IsClock (Clock frames hand) = (f : ℕ) → Contains frames f → f < all_frames k
+  IsClock (Clock frames hand) = AreFrames frames hand
   IsClock _ = ⊥
 
   -- a page whose dirty sub-pages can be sealed, and which has a page's bytes where it is in a frame
@@ -33,6 +40,7 @@ module _ (k : Plan) where
     pub used : IsUse (all_pages k) frame.used
     pub owner : IsOwner k frame.owner
 
+  -- the cell of such a frame
   abbrev pub IsFrameCell : Cell → Type 0
   IsFrameCell (Frame frame) = IsFrame frame
   IsFrameCell _ = ⊥

@@ -17,6 +17,7 @@ abbrev pub history_after : History → List (Stamped Stamp Part) → History
 history_after past [] = past
 history_after past (e ∷ es) = history_after (e.entry.entry ∷ past) es
 
+-- the machine's history of all entries of a turnstile, the last one first
 abbrev pub history_of : List (Stamped Stamp Part) → History
 history_of es = history_after [] es
 

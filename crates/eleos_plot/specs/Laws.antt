@@ -4,7 +4,7 @@ use Rattle.eleos_base.specs.declared.plan.Plan.{Plan}
 use Rattle.eleos_base.specs.declared.plot.Base.{Base}
 use Rattle.eleos_base.specs.declared.plot.Event.{Event as Stamped}
 use Rattle.eleos_base.specs.Histories.{Legal, MayFollow, linked, made}
-use Rattle.eleos_core.specs.Laws.{IsRun}
+use Rattle.eleos_core.specs.Laws.{IsLegalRun}
 use Rattle.eleos_core.specs.Legal.{CoreStep}
 use Rattle.eleos_core.specs.PartLaws.{IsLenOf}
 use Rattle.eleos_core.specs.Parts.{MayStep, Part, Stamp, cell_of, part_at}
@@ -33,7 +33,7 @@ KeptIsMade = (g : Ground) (before : ℕ → Part) (d : Stamp) → MayStep g.plan
 
 -- a value that has the part which a legal history made of a cell fits that cell
 abbrev pub CellsFit : Type 0
-CellsFit = (k : Plan) (key : List ℕ) (past : History) (c : ℕ) (value : Cell) → IsRun k key past → part_of_cell value ≡ part_at k (seals_by key) past c → Fits k (cell_of k c) value
+CellsFit = (k : Plan) (key : List ℕ) (past : History) (c : ℕ) (value : Cell) → IsLegalRun k key past → part_of_cell value ≡ part_at k (seals_by key) past c → Fits k (cell_of k c) value
 
 -- fit cells have their parts
 abbrev pub CellsShow : Type 0

@@ -1,25 +1,28 @@
 -- A step reads and changes the parts of its foot alone.
-use Rattle.std.specs.Prelude.{◌≡◌, ℕ, true, List, [], ◌∷◌, length, MatchOption, MatchBool, None, Some, is_some, if◌then◌else◌, refl}
+use Rattle.std.specs.Prelude.{◌≡◌, ℕ, ◌<◌, true, List, [], ◌∷◌, length, MatchOption, MatchBool, None, Some, is_some, if◌then◌else◌, refl}
 use Rattle.std.proofs.Common.{sym, ◌∙◌, subst, ap, inl, inr}
 use Rattle.eleos_base.specs.declared.memory.Addr.{Addr}
 use Rattle.eleos_base.specs.declared.memory.Op.{Op as Calls}
 use Rattle.eleos_base.specs.declared.memory.Op.TheVariants.{Alloc, Free, Share, Read, Write}
 use Rattle.eleos_base.specs.declared.memory.Reply.{Reply}
-use Rattle.eleos_base.specs.declared.memory.Reply.TheVariants.{BadRange, BadSize, Done, Text, Worn}
+use Rattle.eleos_base.specs.declared.memory.Reply.TheVariants.{BadRange, BadSize, Done, Text, Worn, Enough, Swept, Reached, Pinned, Short}
 use Rattle.eleos_base.specs.declared.plan.Plan.{Plan}
 use Rattle.eleos_base.specs.Plain as plain
 use Rattle.eleos_base.specs.Plain.{is_good_size, is_in_range, use_refusal}
 use Rattle.eleos_base.specs.Plans.{enclave_of, sub_bytes}
 use Rattle.eleos_base.specs.Terms.{IsLocal}
 use Rattle.eleos_base.specs.Ties.{Has}
+use Rattle.eleos_base.specs.declared.memory.Looked.{Looked}
 use Rattle.eleos_core.specs.declared.event.Event.{Event}
+use Rattle.eleos_core.specs.declared.event.Goal.{Goal}
+use Rattle.eleos_core.specs.declared.event.Goal.TheVariants.{Low, To}
 use Rattle.eleos_core.specs.declared.event.Event.TheVariants.{Op, Link, Unlink, Fill, Evict, Move, Starved, Spoiled, Survey}
 use Rattle.eleos_core.specs.Legal.{ByBlocks, IsPlainly}
-use Rattle.eleos_core.specs.Parts.{CallOn, EventOn, IsWantedIn, Part, Stamp, alloc_cell, block_at, block_foot, cell_of, clock_cell, foot_of, found_in, frame_cell, frame_in, holder_in, is_worn_in, list_in, live_in, owner_in, page_cell, part_after, places_in, sub_in, subs_in, verdict_in}
-use Rattle.eleos_core.specs.Places.{home_of, page_of, sub_of, subs}
+use Rattle.eleos_core.specs.Parts.{CallOn, EventOn, IsWantedIn, Part, Stamp, alloc_cell, block_at, block_foot, cell_of, clock_cell, foot_of, found_in, frame_cell, frame_in, holder_in, is_worn_in, list_in, live_in, owner_in, page_cell, part_after, places_in, sub_in, subs_in, survey_foot, verdict_in}
+use Rattle.eleos_base.specs.Places.{home_of, page_of, sub_of, subs}
 use Rattle.eleos_core.specs.Seals.{Seals, seals_by}
 use Rattle.eleos_core.specs.State.{address_of, entry}
-use Rattle.eleos_core.specs.Sweeps.{IsTaken, SurveyReply}
+use Rattle.eleos_core.specs.Sweeps.{IsEnough, IsShort, IsSwept, IsTaken, SurveyReply}
 use Rattle.eleos_core.proofs.Tests.{by_test}
 use Rattle.eleos_plot.specs.Terms.{core_terms}
 
@@ -66,6 +69,22 @@ module _ (k : Plan) (x : Seals) (b b' : ℕ → Part) where
       (λ q. MatchBool (is_worn_in k (sub_in k (subs_in q) s)) (IsPlainly e (Worn s)) (ByBlocks (verdict_in k x e.event blocks q) Done reply))
       (IsPlainly e) same h
 
+  -- a survey on its cells: the pool's frames count where the answer is Short alone
+  survey_same : (e : ℕ) (goal : Goal) (sweep : List Looked) (reply : Reply) → Same (survey_foot k e reply)
+      → SurveyReply (list_in (b (clock_cell k (Some e)))) (list_in (b (clock_cell k None))) goal sweep reply
+      → SurveyReply (list_in (b' (clock_cell k (Some e)))) (list_in (b' (clock_cell k None))) goal sweep reply
+  survey_same e (Low n) sweep (Enough z) same h = subst (λ (q : Part). IsEnough (list_in q) n sweep z) (sym (same (clock_cell k (Some e)) (inl refl))) h
+  survey_same e (Low n) sweep (Swept z) same h = subst (λ (q : Part). IsSwept (list_in q) n sweep z) (sym (same (clock_cell k (Some e)) (inl refl))) h
+  survey_same e (To n) sweep (Reached share) same h = subst (λ (q : Part). (share ≡ length (list_in q)) × (share ≡ n) × (sweep ≡ [])) (sym (same (clock_cell k (Some e)) (inl refl))) h
+  survey_same e (To n) sweep (Pinned share) same h = subst (λ (q : Part). (share ≡ length (list_in q)) × (n < share) × IsTaken sweep (list_in q)) (sym (same (clock_cell k (Some e)) (inl refl))) h
+  survey_same e (To n) sweep (Short share) same h =
+      let own = same (clock_cell k (Some e)) (inl refl) in
+      let pool = same (clock_cell k None) (inr (inl refl)) in
+      subst (λ (q : Part). (share ≡ length (list_in q)) × (share < n) × IsShort (list_in (b' (clock_cell k None))) sweep) (sym own)
+      (h.0, h.1, subst (λ (q : Part). IsShort (list_in q) sweep) (sym pool) h.2)
+  survey_same e (Low n) sweep _ same h = absurd h
+  survey_same e (To n) sweep _ same h = absurd h
+
   -- an event on its cells
   event_same : (who : ℕ) (event : Event) (blocks : List (List ℕ)) (reply : Reply) (len : ℕ) → let d : Stamp = record { entry = entry who event blocks reply; len = len } in Same (foot_of k who event reply len) → EventOn k x d b event → EventOn k x d b' event
   event_same who (Op op) blocks reply len same h = call_same who op blocks reply len same h
@@ -92,11 +111,7 @@ module _ (k : Plan) (x : Seals) (b b' : ℕ → Part) where
   event_same who (Spoiled wanted) blocks reply len same h =
       subst (λ (q : Part). EventOn k x (record { entry = entry who (Spoiled wanted) blocks reply; len = len }) (λ _. q) (Spoiled wanted)) (sym (same (page_cell k (page_of k (sub_of k (address_of wanted)))) (inl refl))) h
   event_same who (Survey e goal sweep) blocks reply len same h =
-      let own = same (clock_cell k (Some e)) (inl refl) in
-      let pool = same (clock_cell k None) (inr (inl refl)) in (
-        subst (λ (q : Part). SurveyReply (list_in q) (list_in (b' (clock_cell k None))) goal sweep reply) (sym own) (subst (λ (q : Part). SurveyReply (list_in (b (clock_cell k (Some e)))) (list_in q) goal sweep reply) (sym pool) h.0),
-        h.1,
-      )
+      (survey_same e goal sweep reply same h.0, h.1)
 
 pub core_local : IsLocal core_terms
 core_local g d b a b' a' same h = record {

@@ -67,6 +67,7 @@ abbrev pub op_bytes : OpRef → List ℕ
 op_bytes (Write at bytes) = bytes.now
 op_bytes _ = []
 
+-- the bytes that were to be written, none where no write was wanted
 abbrev pub wanted_bytes : WantedRef → List ℕ
 wanted_bytes (ACall op) = op_bytes op
 wanted_bytes _ = []

@@ -8,7 +8,7 @@ use Rattle.eleos_base.specs.Ties.{Has, Tie, neither, adds, takes}
 use Rattle.eleos_core.specs.declared.event.Event.{Event}
 use Rattle.eleos_core.specs.declared.event.Event.TheVariants.{Link, Unlink, Evict}
 use Rattle.eleos_core.specs.Parts.{MayStep, Part, Stamp, after_at, foot, no_part, page_cell}
-use Rattle.eleos_core.specs.Places.{page_of, sub_of}
+use Rattle.eleos_base.specs.Places.{page_of, sub_of}
 use Rattle.eleos_core.specs.Seals.{Seals, seals_by}
 use Rattle.eleos_plot.specs.declared.cell.Cell.{Cell}
 use Rattle.eleos_plot.specs.declared.plot.Ground.{Ground}
@@ -34,6 +34,7 @@ pub record Steps (k : Plan) (x : Seals) (d : Stamp) (before after : ℕ → Part
   pub may : MayStep k x d before
   pub made : (c : ℕ) → Has c (foot k d) → after c ≡ after_at k x d before c
 
+-- the machine as a turnstile is told of it: parts, feet and steps, the page that an evict wants bare, the links of pages
 abbrev pub core_terms : Terms Cell Stamp Part Ground
 core_terms = record {
   part = part_of_cell;

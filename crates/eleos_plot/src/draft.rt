@@ -3,12 +3,10 @@ ghost use Rattle.std.specs.Prelude.{◌≡◌, ◌+◌, ◌<◌, ◌≤◌, ◌+
 
 use crate::kinds::{EventKind, ReplyKind};
 use crate::refs::{EventRef, ReplyRef};
-use eleos_base::{Looked, NoMemory, Plan};
+use eleos_base::{Looked, MOST_WRITTEN, NoMemory, Plan};
 use std::alloc::Global;
 use std::marker::Model;
 
-/// The most bytes of a write.
-pub const MOST_WRITTEN: usize = 8192;
 /// The most bytes of a reply's text: those of a sub-page.
 pub const MOST_TEXT: usize = 1024;
 /// Bytes of a block.
@@ -50,7 +48,8 @@ impl Model for Draft {
 
 impl Draft {
     ghost use Rattle.eleos_core.specs.Applying.{stamp_of};
-    ghost use Rattle.eleos_plot.specs.Entries.{blank_stamp, HasSweep, sweep_of, with_block, with_looked};
+    ghost use Rattle.eleos_plot.specs.Entries.{blank_stamp, HasSweep, is_survey, sweep_of};
+    ghost use Rattle.eleos_plot.specs.Entries.{with_block, with_looked};
     ghost use Rattle.eleos_plot.specs.Refs.{event_bytes, event_of, reply_bytes, reply_of};
 
     /// Takes the memory of any entry of a machine. The room is the same for each good plan.
@@ -85,6 +84,13 @@ impl Draft {
         self.blocks.clear();
         self.count = 0;
         self.sweep.clear();
+    }
+
+    /// Whether the entry is the end of a search by swapper or balloon.
+    pub fn is_survey(&self) -> bool
+        ensures { result ≡ is_survey self.now.entry.event }
+    {
+        matches!(self.event, EventKind::Survey { .. })
     }
 
     /// Says how many sub-pages the block has that the entry frees or shares.

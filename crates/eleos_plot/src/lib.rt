@@ -4,6 +4,7 @@
 mod block_list;
 mod cell;
 mod draft;
+mod frame_list;
 mod kinds;
 pub mod laws;
 mod plot;
@@ -11,6 +12,7 @@ mod refs;
 
 pub use block_list::{BlockList, MOST_LIVE};
 pub use cell::Cell;
-pub use draft::{BLOCK_BYTES, Draft, MOST_BLOCKS, MOST_LOOKED, MOST_TEXT, MOST_WRITTEN};
+pub use draft::{BLOCK_BYTES, Draft, MOST_BLOCKS, MOST_LOOKED, MOST_TEXT};
+pub use frame_list::FrameList;
 pub use plot::{CellPart, CorePlot, Ground};
 pub use refs::{EventRef, OpRef, ReplyRef, WantedRef};

@@ -13,7 +13,8 @@ pub struct Ground {
     pub key: Bytes,
 }
 
-/// What the history fixes of a cell, which contracts see as the cell's part. No value of it is made.
+/// What the history fixes of a cell, which contracts see as the cell's part. No value of it is
+/// made.
 pub struct CellPart {}
 
 impl Model for CellPart {

@@ -20,6 +20,7 @@ use Rattle.eleos_turn.specs.Words.{words_for}
 use Rattle.eleos_turn.specs.Rule.{base_of, IsSized}
 use Rattle.eleos_turn.specs.Numbers.{longer, shorter, most_pins}
 
+-- a turnstile opens with as many parts as it was given cells
 pub opening_length : {C D Q G : Type 0} (t : Terms C D Q G) (k : Key C G) → length (base_of t k).opening ≡ length k.cells.value.items
 opening_length t k = length-map k.cells.value.items t.part
 
@@ -47,6 +48,7 @@ module _ {C D Q G : Type 0} (t : Terms C D Q G) where
   pub had : (m m' : M) (w : View D Q G) (c : ℕ) (y z : Option C) (l : List (ℕ × Option C)) → m' ≡ (w, (c, y) ∷ m.1) → m'.1 ≡ (c, z) ∷ l → z ≡ y
   had m m' w c y z l is found = ap (second_or z) (sym found ∙ ap (λ (t : M). t.1) is)
 
+  -- a turn that came with its slot is taken with the value in it, once that slot is emptied and laid back
   pub took : (m m' m'' m₃ : M) (c n : ℕ) (slot : Option C) (x : C) → Turn t c n m m' → m.1 ≡ [] → m'.1 ≡ (c, slot) ∷ rest m'.1 → m'' ≡ (m'.0, (c, None) ∷ rest m'.1) → m₃ ≡ (moved m''.0 0, []) → slot ≡ Some x
       → SeatTook t c n m.0 x m₃.0
   took m m' m'' m₃ c n slot x y none_out found ex laid un = let w : View D Q G = busied m.0 y.0 c n in let w' : View D Q G = moved w 0 in
@@ -61,9 +63,11 @@ next_left {D} {Q} {G} b a m n e = subst (λ (z : ℕ). dealt_from {D = D} (deali
     (let x : suc n * b.each - b.each ≡ n * b.each = let y = suc-mul n b.each in omega (arith, y) in let x' : suc n * most_pins - most_pins ≡ n * most_pins = omega arith in
     λ i. record (dealing b (a + 1) n) { left = x i; most = x' i })
 
+-- the hand that is dealt next has the next number, and has done nothing
 pub next_hand : {D Q G : Type 0} (b : Base Q G) (a m n : ℕ) → m ≡ suc n → dealt_to {D = D} (dealing b a m) ≡ hand_of b (a + 1)
 next_hand {D} {Q} {G} b a m n e = subst (λ (z : ℕ). dealt_to {D = D} (dealing b a z) ≡ hand_of b (a + 1)) (sym e) refl
 
+-- each word of a table of zeros is 0
 pub all_zero : (n i : ℕ) → get_or {A = ℕ} (replicate n 0) i 0 ≡ 0
 all_zero zero i = refl
 all_zero (suc n) zero = refl
@@ -100,6 +104,7 @@ one_out {A} items xs ys x i long same at is = (
       (λ (ne : k ≢ i). front_get xs (x ∷ []) k (omega (arith, l, ne, long)) ∙ same k (omega (arith, l, ne))),
 )
 
+-- where the slots below i are empty and the others full, emptying slot i moves the border one on
 pub one_empty : (fs gs : List Bool) (i n : ℕ) → i < length fs → gs ≡ set fs i false → ((k : ℕ) → i ≤ k → k < n → get_or fs k false ≡ true) → ((k : ℕ) → k < i → get_or fs k false ≡ false)
     → ((k : ℕ) → i + 1 ≤ k → k < n → get_or gs k false ≡ true) × ((k : ℕ) → k < i + 1 → get_or gs k false ≡ false)
 one_empty fs gs i n inside is full empty = (
@@ -109,6 +114,7 @@ one_empty fs gs i n inside is full empty = (
       (λ (ne : k ≢ i). get_or-set_other fs i k false false ne ∙ empty k (omega (arith, l, ne)))),
 )
 
+-- a list of length 0 has nothing in it
 pub nil_of : {A : Type 0} (xs : List A) → length xs ≡ 0 → xs ≡ []
 nil_of [] e = refl
 nil_of (x ∷ xs) e = absurd (omega arith)

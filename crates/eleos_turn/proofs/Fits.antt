@@ -39,6 +39,7 @@ module _ {C D Q G : Type 0} (t : Terms C D Q G) where
   links_stay : (s : S) (more : List (Event D Q)) (held : List ℕ) → 0 < s.number → Apart t s.home.base.grounds (numbers_of s.number) held more → links t (record s { seen = s.seen ++ more }) ≡ links t s
   links_stay s more held made a = links_append t s.home.base.grounds s.number [] s.seen more ∙ links_apart t s.home.base.grounds s.number (links t s) (numbers_of s.number) held more (numbers_made s.number made) a
 
+  -- the fields of a hand fit after the turn of a cell was taken, with one turn more counted
   pub fits_took : (z z' : TableId) (k : ℕ) (r : Refused) (m m' : M) (stamps held tied c n : ℕ) (x : C) → IsHand t (state_of z k r m.0) m stamps held tied → z' ≡ z → 0 < k → c < length m.0.base.opening → (Has c m.0.held → ⊥)
       → SeatTook t c n m.0 x m'.0 → IsAtRest m' → IsHand t (state_of z' k r m'.0) m' stamps (held + 1) tied
   fits_took z z' k r m m' stamps held tied c n x i same made inside free took rest = let s : S = state_of z k r m.0 in
@@ -47,6 +48,7 @@ module _ {C D Q G : Type 0} (t : Terms C D Q G) where
       fits z' k r m' stamps (held + 1) tied (with_turn s more c n) same refl refl (λ j. (took'.1 j, rest.0 j)) i.left (let q = i.turned in omega (arith, q))
       (λ m. i.links m ∙ sym (ap length (links_stay s more s.turns m took'.2.0))) i.few (sound_took t s more c n sound made inside free)
 
+  -- the same after a turn was given back, with one less
   pub fits_given : (z z' : TableId) (k : ℕ) (r : Refused) (m m' : M) (stamps held tied c : ℕ) → IsHand t (state_of z k r m.0) m stamps held tied → z' ≡ z → Has c m.0.held → m' ≡ (freed m.0 c, []) → IsHand t (state_of z' k r m'.0) m' stamps (held - 1) tied
   fits_given z z' k r m m' stamps held tied c i same had given = let s : S = state_of z k r m.0 in
       fits z' k r m' stamps (held - 1) tied (without_turn s c) same refl refl (given ∙ ap (λ (y : M). (freed y.0 c, [])) i.is) i.left (let q = i.turned in let one = less_exact c s.turns had in omega (arith, q, one))
@@ -56,6 +58,7 @@ module _ {C D Q G : Type 0} (t : Terms C D Q G) where
   pub most_now : (z : TableId) (k : ℕ) (r : Refused) (m : M) (stamps held tied c : ℕ) → IsHand t (state_of z k r m.0) m stamps held tied → Has c m.0.held → m.0.most ≡ most_pins
   most_now z k r m stamps held tied c i had = ap (λ (y : M). y.0.most) i.is ∙ most_made k (dite (ℕ_discrete k 0) (λ e. absurd (subst (Has c) (i.sound.idle e).0 had)) (λ ne. omega (arith, ne)))
 
+  -- the same after a pin was put on a cell whose turn the hand has
   pub fits_pinned : (z z' : TableId) (k : ℕ) (r : Refused) (m m' : M) (stamps held tied c : ℕ) → IsHand t (state_of z k r m.0) m stamps held tied → z' ≡ z → Has c m.0.held → length m.0.pins < most_pins → m' ≡ (pinned m.0 c, m.1)
       → IsHand t (state_of z' k r m'.0) m' stamps held tied
   fits_pinned z z' k r m m' stamps held tied c i same had few now = let s : S = state_of z k r m.0 in let made : 0 < k = made_of s i.sound c had in
@@ -64,16 +67,19 @@ module _ {C D Q G : Type 0} (t : Terms C D Q G) where
       made_of : (s : S) → IsSound t s → (c : ℕ) → Has c s.turns → 0 < s.number
       made_of s k c had = dite (ℕ_discrete s.number 0) (λ e. absurd (subst (Has c) (k.idle e).0 had)) (λ ne. omega (arith, ne))
 
+  -- the same after a pin was taken off a cell with more pins of the hand than links
   pub fits_unpinned : (z z' : TableId) (k : ℕ) (r : Refused) (m m' : M) (stamps held tied c : ℕ) → IsHand t (state_of z k r m.0) m stamps held tied → z' ≡ z → links_on t (state_of z k r m.0) c < times c m.0.pins → m' ≡ (unpinned m.0 c, m.1)
       → IsHand t (state_of z' k r m'.0) m' stamps held tied
   fits_unpinned z z' k r m m' stamps held tied c i same more now = let s : S = state_of z k r m.0 in
       fits z' k r m' stamps held tied (without_pin s c) same refl refl (now ∙ ap (λ (y : M). (unpinned y.0 c, y.1)) i.is) i.left i.turned i.links i.few (sound_unpin t s c i.sound more)
 
+  -- the same after a look at a cell's word
   pub fits_looked : (z z' : TableId) (k : ℕ) (r : Refused) (m m' : M) (stamps held tied c n : ℕ) → IsHand t (state_of z k r m.0) m stamps held tied → z' ≡ z
       → m' ≡ (record m.0 { looked = (c, n); looks = m.0.looks + 1 }, m.1) → IsHand t (state_of z' k r m'.0) m' stamps held tied
   fits_looked z z' k r m m' stamps held tied c n i same now = let s : S = state_of z k r m.0 in
       fits z' k r m' stamps held tied (looked_at s c n) same refl refl (now ∙ ap (λ (y : M). (record y.0 { looked = (c, n); looks = y.0.looks + 1 }, y.1)) i.is) i.left i.turned i.links i.few (sound_looked t s c n i.sound)
 
+  -- the same after a try that found the cell busy
   pub fits_refused : (z z' : TableId) (k : ℕ) (r r' : Refused) (m m' : M) (stamps held tied c n : ℕ) → IsHand t (state_of z k r m.0) m stamps held tied → z' ≡ z
       → m' ≡ (record m.0 { tried = (c, n); misses = m.0.misses + 1 }, m.1) → r' ≡ (refused_at (state_of z k r m.0) c n).refused → IsHand t (state_of z' k r' m'.0) m' stamps held tied
   fits_refused z z' k r r' m m' stamps held tied c n i same now counted = let s : S = state_of z k r m.0 in
@@ -123,6 +129,7 @@ module _ {C D Q G : Type 0} (t : Terms C D Q G) where
       ∙ ap (tied_to t (t.tie g d)) (links_stay s more held made a)))
       ∙ tied_count t (t.tie g d) (links t s) (λ c is. subst (λ (n : ℕ). 0 < n) (sym (links_times t g s.number [] no_link s.seen (λ x. refl) c)) (there c is))
 
+  -- the same after an entry was stamped: one stamp less is left, and the links change by the entry's tie
   pub fits_stamped : (z z' : TableId) (k : ℕ) (r : Refused) (m m' : M) (stamps held tied n : ℕ) (d : D) (kept : List (ℕ × Q)) → IsHand t (state_of z k r m.0) m stamps held tied → z' ≡ z → CanStamp t (state_of z k r m.0) d kept
       → SeatStamped t (record { entry = d; kept = kept }) m.0 n m'.0 → m'.1 ≡ m.1 → IsHand t (state_of z' k r m'.0) m' (stamps - 1) held (tallied (tied_is (t.tie m.0.base.grounds d)) tied)
   fits_stamped z z' k r m m' stamps held tied n d kept i same can stamped rest = let s : S = state_of z k r m.0 in let e : Event D Q = record { entry = d; kept = kept } in let g : G = s.home.base.grounds in

@@ -10,10 +10,12 @@ use Rattle.eleos_turn.specs.Rule.{Apart}
 use Rattle.eleos_turn.proofs.Numbers.{here, else}
 
 module _ {Q : Type 0} where
+  -- a cell that is not among those put keeps its part
   pub put_else : (ks : List (ℕ × Q)) (f : ℕ → Q) (c : ℕ) → (Has c (map (λ k. k.0) ks) → ⊥) → put ks f c ≡ f c
   put_else [] f c not_in = refl
   put_else (x ∷ xs) f c not_in = else c x.0 x.1 (put xs f c) (λ e. not_in (inl e)) ∙ put_else xs f c (λ h. not_in (inr h))
 
+  -- what a cell was before does not matter where its part is put
   pub put_same : (ks : List (ℕ × Q)) (f g : ℕ → Q) (c : ℕ) → Has c (map (λ k. k.0) ks) → put ks f c ≡ put ks g c
   put_same [] f g c h = absurd h
   put_same (x ∷ xs) f g c h = dite (ℕ_discrete c x.0)
@@ -21,10 +23,12 @@ module _ {Q : Type 0} where
       (λ ne. else c x.0 x.1 (put xs f c) ne ∙ (⊎_elim (λ (q : c ≡ x.0). absurd (ne q)) (λ (q : Has c (map (λ k. k.0) xs)). put_same xs f g c q) h ∙ sym (else c x.0 x.1 (put xs g c) ne)))
 
 module _ {D Q : Type 0} where
+  -- what two pieces of a history make of the cells is what the second makes of what the first made
   pub made_append : (f : ℕ → Q) (xs ys : List (Event D Q)) → made_from f (xs ++ ys) ≡ made_from (made_from f xs) ys
   made_append f [] ys = refl
   made_append f (x ∷ xs) ys = made_append (put x.kept f) xs ys
 
+-- a test of two pairs of numbers fails where one of the pairs differs
 pub both_or : (k w c d : ℕ) (n m : ℕ) → (k ≢ w) ⊎ (c ≢ d) → cond (eqb k w && eqb c d) n m ≡ m
 both_or k w c d n m (inl ne) = ap (λ (t : Bool). cond (t && eqb c d) n m) (ne_eqb k w ne)
 both_or k w c d n m (inr ne) = ap (λ (t : Bool). cond (eqb k w && t) n m) (ne_eqb c d ne) ∙ last (eqb k w)
@@ -33,6 +37,7 @@ both_or k w c d n m (inr ne) = ap (λ (t : Bool). cond (eqb k w && t) n m) (ne_e
     last true = refl
     last false = refl
 
+-- it holds where both pairs are the same
 pub both_and : (k w c d : ℕ) (n m : ℕ) → k ≡ w → c ≡ d → cond (eqb k w && eqb c d) n m ≡ n
 both_and k w c d n m e e' = ap (λ (t : Bool). cond (t && eqb c d) n m) (eq-eqb k w e) ∙ ap (λ (t : Bool). cond t n m) (eq-eqb c d e')
 
@@ -63,22 +68,27 @@ module _ {C D Q G : Type 0} (t : Terms C D Q G) where
   abbrev done : G → (ℕ → ℕ → ℕ) → List E → ℕ → ℕ → ℕ
   done = linked_from t
 
+  -- the links after two pieces of a history are those that the second leaves of those after the first
   pub linked_append : (g : G) (l : ℕ → ℕ → ℕ) (xs ys : List E) → done g l (xs ++ ys) ≡ done g (done g l xs) ys
   linked_append g l [] ys = refl
   linked_append g l (x ∷ xs) ys = linked_append g (tied_up (t.who x.entry) (t.tie g x.entry) l) xs ys
 
+  -- a legal piece, and one that is legal behind it, are legal together
   pub legal_append : (g : G) (f : ℕ → Q) (l : ℕ → ℕ → ℕ) (xs ys : List E) → LegalFrom t g f l xs → LegalFrom t g (made_from f xs) (done g l xs) ys → LegalFrom t g f l (xs ++ ys)
   legal_append g f l [] ys a b = b
   legal_append g f l (x ∷ xs) ys a b = (a.0, legal_append g (put x.kept f) (tied_up (t.who x.entry) (t.tie g x.entry) l) xs ys a.1 b)
 
+  -- a beginning of what is legal is legal
   pub legal_front : (g : G) (f : ℕ → Q) (l : ℕ → ℕ → ℕ) (xs ys : List E) → LegalFrom t g f l (xs ++ ys) → LegalFrom t g f l xs
   legal_front g f l [] ys a = tt
   legal_front g f l (x ∷ xs) ys a = (a.0, legal_front g (put x.kept f) (tied_up (t.who x.entry) (t.tie g x.entry) l) xs ys a.1)
 
+  -- the rest of what is legal is legal behind its beginning
   pub legal_back : (g : G) (f : ℕ → Q) (l : ℕ → ℕ → ℕ) (xs ys : List E) → LegalFrom t g f l (xs ++ ys) → LegalFrom t g (made_from f xs) (done g l xs) ys
   legal_back g f l [] ys a = a
   legal_back g f l (x ∷ xs) ys a = legal_back g (put x.kept f) (tied_up (t.who x.entry) (t.tie g x.entry) l) xs ys a.1
 
+  -- where each entry of two pieces is of a hand that was made, so is each of both together
   pub signed_append : (n : ℕ) (xs ys : List E) → Signed t n xs → Signed t n ys → Signed t n (xs ++ ys)
   signed_append n [] ys a b = b
   signed_append n (x ∷ xs) ys a b = (a.0, signed_append n xs ys a.1 b)
@@ -87,10 +97,12 @@ module _ {C D Q G : Type 0} (t : Terms C D Q G) where
   signed_back n [] ys a = a
   signed_back n (x ∷ xs) ys a = signed_back n xs ys a.1
 
+  -- two pieces that have no entry of these hands and touch none of these cells do so together
   pub apart_append : (g : G) (ns hs : List ℕ) (xs ys : List E) → Apart t g ns hs xs → Apart t g ns hs ys → Apart t g ns hs (xs ++ ys)
   apart_append g ns hs [] ys a b = b
   apart_append g ns hs (x ∷ xs) ys a b = (a.0, a.1, apart_append g ns hs xs ys a.2 b)
 
+  -- what keeps off these hands and cells keeps off some of them
   pub apart_less : (g : G) (ns ns' hs hs' : List ℕ) (xs : List E) → ((n : ℕ) → Has n ns' → Has n ns) → ((c : ℕ) → Has c hs' → Has c hs) → Apart t g ns hs xs → Apart t g ns' hs' xs
   apart_less g ns ns' hs hs' [] fewer less a = tt
   apart_less g ns ns' hs hs' (x ∷ xs) fewer less a = ((λ h. a.0 (fewer (t.who x.entry) h)), (λ c h q. a.1 c (less c h) q), apart_less g ns ns' hs hs' xs fewer less a.2)

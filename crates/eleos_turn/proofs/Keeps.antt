@@ -21,6 +21,7 @@ use Rattle.eleos_turn.specs.Words.{word_of}
 use Rattle.eleos_turn.proofs.Numbers.{times_length, total_same, total_one, total_le}
 use Rattle.eleos_turn.proofs.Histories.{made_append, linked_append, legal_back, made_apart, linked_apart}
 
+-- a place where something stands lies within the list
 pub length_here : {A : Type 0} (l : List A) (i : ℕ) (a : A) → get_elem? l i ≡ some a → i < length l
 length_here [] i a e = absurd (some-ne-none a (sym e))
 length_here (x ∷ xs) zero a e = omega arith
@@ -52,6 +53,7 @@ module _ {C D Q G : Type 0} (t : Terms C D Q G) (b : Base Q G) where
   abbrev pub Ok : List E → List ℕ → Homes → (ℕ → ℕ) → (ℕ → ℕ) → ℕ → V → Type 0
   Ok = SeatOk t b
 
+  -- what the rule says of one cell: at home it is what the history made of it, or one seat has its turn
   abbrev pub Cell : List E → List ℕ → Homes → List V → (ℕ → ℕ) → ℕ → Type 0
   Cell = CellOk t b
 
@@ -59,6 +61,7 @@ module _ {C D Q G : Type 0} (t : Terms C D Q G) (b : Base Q G) where
   abbrev pub SameWord : List ℕ → List ℕ → ℕ → Type 0
   SameWord ws' ws c = (get_or ws' (word_of c) 0 % 2 ≡ get_or ws (word_of c) 0 % 2) × (get_or ws' (word_of c) 0 / 256 ≡ get_or ws (word_of c) 0 / 256) × (get_or ws (word_of c) 0 % 256 < 4 → get_or ws' (word_of c) 0 % 256 < 4)
 
+  -- what holds of the seat that changed, and of each other one, holds of every seat then
   pub every : (K : ℕ → V → Type 0) (vs : List V) (me : ℕ) (w : V) → K me w → ((j : ℕ) (d : V) → j ≢ me → get_elem? vs j ≡ some d → K j d)
       → (j : ℕ) (d : V) → get_elem? (set vs me w) j ≡ some d → K j d
   every K vs me w mine others j d e = ⊎_elim (λ (x : (j ≡ me) × (w ≡ d)). subst (λ (x : ℕ × V). K x.0 x.1) (λ i. (sym x.0 i, x.1 i)) mine)
@@ -166,9 +169,11 @@ module _ {C D Q G : Type 0} (t : Terms C D Q G) (b : Base Q G) where
   pub word_else : (ws : List ℕ) (c n k : ℕ) → k ≢ c → get_or (set ws (word_of c) n) (word_of k) 0 ≡ get_or ws (word_of k) 0
   word_else ws c n k ne = get_or-set_other ws (word_of c) (word_of k) n 0 (λ e. ne (omega arith))
 
+  -- a change of one cell's word changes no other cell's word
   pub same_else : (ws : List ℕ) (c n k : ℕ) → k ≢ c → SameWord (set ws (word_of c) n) ws k
   same_else ws c n k ne = let e = word_else ws c n k ne in (ap (λ (y : ℕ). y % 2) e, ap (λ (y : ℕ). y / 256) e, subst (λ (y : ℕ). y % 256 < 4) (sym e))
 
+  -- a change of a cell's word leaves the length of the history in word 0
   pub word_first : (ws : List ℕ) (c n : ℕ) → get_or (set ws (word_of c) n) 0 0 ≡ get_or ws 0 0
   word_first ws c n = get_or-set_other ws (word_of c) 0 n 0 (λ e. omega arith)
 
@@ -190,9 +195,11 @@ module _ {C D Q G : Type 0} (t : Terms C D Q G) (b : Base Q G) where
     sym k.sees,
   )
 
+  -- the history has room for the stamps that a seat has left
   pub room_of : (s : St) (r : Rule s) (j : ℕ) (v : V) → get_elem? s.views j ≡ some v → length r.history + v.left ≤ b.hands * b.each
   room_of s r j v at = let q = total_one (λ (d : V). d.left) s.views j v at in let h = r.room in omega arith
 
+  -- the same, told of what the seat has seen and what it has not seen yet
   pub room_seen : (s : St) (r : Rule s) (j : ℕ) (v : V) (at : get_elem? s.views j ≡ some v) → 0 < v.base.hands → length (v.seen ++ (r.each_seat j v at).unseen) + v.left ≤ v.base.hands * v.base.each
   room_seen s r j v at alive = let k = r.each_seat j v at in subst (λ (z : Base Q G × List E). length z.1 + v.left ≤ z.0.hands * z.0.each) (λ i. (sym (k.base_is alive) i, k.sees i)) (room_of s r j v at)
 

@@ -32,6 +32,7 @@ tied_times t k (takes d) l f same c = dite (ℕ_discrete c d)
         (λ ne. let a = else {A = ℕ} c x 1 0 ne in let r = none_less c xs (omega (arith, a, e)) in ap (times c) (else c x xs (x ∷ less_one c xs) ne) ∙ omega (arith, a, r))
 
 module _ {C D Q G : Type 0} (t : Terms C D Q G) where
+  -- the links of a hand after two pieces of a history are those that the second leaves of those after the first
   pub links_append : (g : G) (k : ℕ) (l : List ℕ) (xs ys : List (Event D Q)) → links_from t g k l (xs ++ ys) ≡ links_from t g k (links_from t g k l xs) ys
   links_append g k l [] ys = refl
   links_append g k l (x ∷ xs) ys = links_append g k (cond (eqb k (t.who x.entry)) (tied_to t (t.tie g x.entry) l) l) xs ys

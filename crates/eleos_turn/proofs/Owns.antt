@@ -8,6 +8,7 @@ use Rattle.eleos_turn.specs.Hands.{own}
 use Rattle.eleos_turn.proofs.Numbers.{here, else, tested}
 
 module _ {C D Q G : Type 0} (t : Terms C D Q G) where
+  -- a hand's entries in two pieces are those in the first, then those in the second, whose stamps go on behind the first piece
   pub own_append : (k n : ℕ) (xs ys : List (Event D Q)) → own t k n (xs ++ ys) ≡ own t k n xs ++ own t k (n + length xs) ys
   own_append k n [] ys = let e : n ≡ n + 0 = omega arith in ap (λ (m : ℕ). own t k m ys) e
   own_append k n (x ∷ xs) ys = let r = own_append k (n + 1) xs ys in let e : n + 1 + length xs ≡ n + suc (length xs) = omega arith in

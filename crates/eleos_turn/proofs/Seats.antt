@@ -161,10 +161,12 @@ module _ {C D Q G : Type 0} (t : Terms C D Q G) (b : Base Q G) where
   total_joined : (f : V → ℕ) (vs : List V) (id other : ℕ) (v w u g : V) → get_elem? vs id ≡ some v → get_elem? (set vs id u) other ≡ some w → f u ≡ f v + f w → f g ≡ 0 → total f (set (set vs id u) other g) ≡ total f vs
   total_joined f vs id other v w u g at there both none_left = let x = total_set f vs id v u at in let y = total_set f (set vs id u) other w g there in omega (arith, x, y, both, none_left)
 
+  -- a number of the first list stands in both together
   pub has_left : (n : ℕ) (xs ys : List ℕ) → Has n xs → Has n (xs ++ ys)
   has_left n [] ys h = absurd h
   has_left n (x ∷ xs) ys h = ⊎_elim (λ (e : n ≡ x). inl e) (λ (q : Has n xs). inr (has_left n xs ys q)) h
 
+  -- and so does one of the second
   pub has_right : (n : ℕ) (xs ys : List ℕ) → Has n ys → Has n (xs ++ ys)
   has_right n [] ys h = h
   has_right n (x ∷ xs) ys h = inr (has_right n xs ys h)
@@ -296,6 +298,7 @@ module _ {C D Q G : Type 0} (t : Terms C D Q G) (b : Base Q G) where
         };
       }
 
+  -- a seat without turns may be joined into another: the rule is kept, and the joined seat knows what both knew
   pub joins : (id other : ℕ) (v w : V) → w.held ≡ [] → Joins Rule id v other w (joined v w) (gone t)
   joins id other v w idle = joins_as id other v w (longer v.seen w.seen) (shorter v.seen w.seen) idle (λ h u u' see see' a a'. (both_see h v w u u' see see' a a', heard_short h v.seen w.seen u u' see see'))
 
@@ -304,6 +307,7 @@ module _ {C D Q G : Type 0} (t : Terms C D Q G) (b : Base Q G) where
   of_none [] = tt
   of_none (e ∷ es) = ((λ h. h), (λ c h _. h), of_none es)
 
+  -- the same of a seat that has no numbers either: what it has seen is only told to the other
   pub harks : (id other : ℕ) (v w : V) → w.held ≡ [] → w.numbers ≡ [] → Joins Rule id v other w (harked v w) (gone t)
   harks id other v w idle nobody = joins_as id other v w v.seen w.seen idle (λ h u u' see see' a a'. ((u, see, apart_both v.numbers w.numbers v.held u a (subst (λ (l : List ℕ). Apart t b.grounds l [] u) (sym nobody) (of_none u))), (u', see')))
 

@@ -15,14 +15,17 @@ use Rattle.eleos_turn.proofs.Numbers.{tested, has_none, times_here, times_else, 
 use Rattle.eleos_turn.proofs.Histories.{linked_append, linked_apart, signed_append, tied_below}
 use Rattle.eleos_turn.proofs.Owns.{own_more, own_last}
 
+-- a hand of `make` stamps under its own number
 pub numbers_made : (k : ℕ) → 0 < k → Has k (numbers_of k)
 numbers_made zero l = absurd (omega (arith, l))
 numbers_made (suc k) l = inl (omega arith)
 
+-- no hand stamps under a number that is not its own
 pub numbers_only : (k n : ℕ) → Has n (numbers_of k) → n ≡ k
 numbers_only zero n h = absurd h
 numbers_only (suc k) n h = ⊎_elim (λ (e : n ≡ k + 1). e ∙ omega arith) (λ (q : ⊥). absurd q) h
 
+-- a hand of `make` may have as many pins as any may have
 pub most_made : (k : ℕ) → 0 < k → most_of k ≡ most_pins
 most_made zero l = absurd (omega (arith, l))
 most_made (suc k) l = refl
@@ -145,6 +148,7 @@ module _ {C D Q G : Type 0} (t : Terms C D Q G) where
     idle = λ z. absurd (omega (arith, z, made));
   }
 
+  -- a pin was taken off a cell with more pins of the hand than links
   pub sound_unpin : (s : HandState D Q G) (c : ℕ) → IsSound t s → links_on t s c < times c s.pins → IsSound t (without_pin s c)
   sound_unpin s c k more = let some : 0 < times c s.pins = omega (arith, more) in record {
     alive = k.alive;
@@ -231,6 +235,7 @@ module _ {C D Q G : Type 0} (t : Terms C D Q G) where
     idle = λ _. (refl, refl, refl);
   }
 
+  -- a hand that was just dealt is sound
   pub sound_fresh : (z : Home Q G) (k : ℕ) → 0 < k → k ≤ z.base.hands → length z.base.opening < 2 ^ 31 → z.base.each < 2 ^ 64 → IsSound t (fresh {D = D} z k)
   sound_fresh z k made named small stamps = record {
     alive = omega (arith, made, named);

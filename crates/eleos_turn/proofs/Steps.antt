@@ -46,6 +46,7 @@ module _ {C D Q G : Type 0} (t : Terms C D Q G) (b : Base Q G) where
   covered_all s r id v at k has c = let ok = r.each_seat id v at in let e : linked t b.grounds (v.seen ++ ok.unseen) k c ≡ linked t b.grounds v.seen k c = ap (λ (z : List E). linked t b.grounds z k c) (sym ok.sees) ∙ kept.kept_links t b s r id v at k has c in
       let h = ok.covered k has c in omega (arith, e, h)
 
+  -- a seat may set the busy bit of a cell: it takes the turn where the word was even, and notes the try where it was odd
   pub turn_taken : (missed : ℕ → ℕ) (slots id : ℕ) (me : M) (c k number : ℕ) → c < length b.opening → slots ≡ length b.opening → b.hands ≤ 16 → k % 2 ≡ 1 → k < 4 → me.0.moving ≡ 0 → Has number me.0.numbers → 0 < me.0.base.hands
       → Allows Rule slots id me (word_of c) (λ n. bit_or n k) (takes_turn t missed (at_step slots (word_of c) k 0 none) me)
   turn_taken missed slots id me c k number inside count hands odd_k small_k rests numbered alive s r deep at small = let v : V = me.0 in let n : ℕ = get_or s.words (word_of c) 0 in let n' : ℕ = bit_or n k in let ok = r.each_seat id v at in let wide = r.wide in
@@ -167,6 +168,7 @@ module _ {C D Q G : Type 0} (t : Terms C D Q G) (b : Base Q G) where
         low = (r.each_cell c inside).low;
       }))
 
+  -- a seat that has the turn may lay the slot back empty
   pub slot_laid : (slots id i : ℕ) (me : M) (c : ℕ) → me.1 ≡ (c, None) ∷ [] → me.0.moving ≡ c + 1 → Has c me.0.held → Allows Rule slots id me i (λ n. n) (lays t (at_step slots i 0 0 none) me)
   slot_laid slots id i me c carries moves has s r deep at small = let v : V = me.0 in let w : V = moved v 0 in let as_deep = r.deep in let x = (r.each_seat id v at).turns c has in
       let P : List (ℕ × Option C) → Type 0 = λ l. (w' : V) × (a : Act (Option C)) × Valid s.homes l a × Rule (stepped s i (get_or s.words i 0) id l w' a) × lays t (at_step slots i 0 0 none) (v, l) (get_or s.words i 0) (w', carried_after l a) in
@@ -178,6 +180,7 @@ module _ {C D Q G : Type 0} (t : Terms C D Q G) (b : Base Q G) where
         refl,
       )
 
+  -- a seat that has the turn of a cell may fetch its slot
   pub slot_fetched : (slots id : ℕ) (me : M) (c : ℕ) → me.0.moving ≡ 0 → Has c me.0.held → Allows Rule slots id me (word_of c) (λ n. n) (fetches t (at_step slots (word_of c) 0 0 none) me)
   slot_fetched slots id me c rests has s r deep at small = let v : V = me.0 in let w : V = moved v (c + 1) in let ok = r.each_seat id v at in let x = ok.turns c has in (
     w,
@@ -187,6 +190,7 @@ module _ {C D Q G : Type 0} (t : Terms C D Q G) (b : Base Q G) where
     λ c' is. let e : c ≡ c' = omega arith in λ i. (moved v (e i + 1), (e i, None) ∷ me.1),
   )
 
+  -- a seat may lay the value back and clear the busy bit, where the value has the part that the history made of it
   pub turn_given : (slots id : ℕ) (me : M) (c k : ℕ) (x : C) → k % 2 ≡ 0 → k / 4 ≡ 4611686018427387903 → me.1 ≡ (c, Some x) ∷ [] → me.0.moving ≡ c + 1 → Has c me.0.held → t.part x ≡ made t me.0.base me.0.seen c → 0 < me.0.base.hands
       → Allows Rule slots id me (word_of c) (λ n. bit_and n k) (gives_turn t (at_step slots (word_of c) k 0 none) me)
   turn_given slots id me c k x even_k rest_k carries moves has right alive s r deep at small = let v : V = me.0 in let w : V = freed v c in let ok = r.each_seat id v at in let y = ok.turns c has in
@@ -225,6 +229,7 @@ module _ {C D Q G : Type 0} (t : Terms C D Q G) (b : Base Q G) where
         λ c' is. let e : c ≡ c' = omega arith in λ i. (freed v (e i), []),
       )
 
+  -- a seat may look at the word of a cell
   pub looked : (slots id : ℕ) (me : M) (c : ℕ) → c < length b.opening → b.hands ≤ 16 → Allows Rule slots id me (word_of c) (λ n. n) (looks t (at_step slots (word_of c) 0 0 none) me)
   looked slots id me c inside hands s r deep at small = let v : V = me.0 in let ok = r.each_seat id v at in let n : ℕ = get_or s.words (word_of c) 0 in let w : V = record v { looked = (c, n); looks = v.looks + 1 } in
       let plain = kept.plain t b s r c inside hands in let all_pins : pins_in n ≡ n / 256 = kept.pins_plain n plain in (
@@ -257,6 +262,7 @@ module _ {C D Q G : Type 0} (t : Terms C D Q G) (b : Base Q G) where
         ),
       )
 
+  -- a seat may hear the whole history
   pub heard : (slots id i : ℕ) (me : M) → 0 < me.0.base.hands → Allows Rule slots id me i (λ n. n) (hears t (at_step slots i 0 0 none) me)
   heard slots id i me alive s r deep at small = let v : V = me.0 in let ok = r.each_seat id v at in let w : V = record v { seen = v.seen ++ ok.unseen; told = [] } in (
     w,
@@ -280,6 +286,7 @@ module _ {C D Q G : Type 0} (t : Terms C D Q G) (b : Base Q G) where
     (ok.unseen, refl, (kept.sees_all t b s r id v ok alive).0, (ok.told.0, sym ok.sees ∙ ok.told.1), kept.room_seen t b s r id v at alive),
   )
 
+  -- a seat may clear the mark of a cell that was touched, which changes nothing for it
   pub ref_gone : (slots id : ℕ) (me : M) (c k : ℕ) → c < length b.opening → k % 2 ≡ 1 → k / 4 ≡ 4611686018427387903 → Allows Rule slots id me (word_of c) (λ n. bit_and n k) (stays t (at_step slots (word_of c) k 0 none) me)
   ref_gone slots id me c k inside odd_k rest_k s r deep at small = let v : V = me.0 in let n : ℕ = get_or s.words (word_of c) 0 in let n' : ℕ = bit_and n k in let ws : List ℕ = set s.words (word_of c) n' in let wide = r.wide in
       let same = kept.same_there t b s.words c n' (omega arith) (and_odd n k odd_k) (and_pins n k small (omega (arith, rest_k))) (and_low n k small rest_k) in (
@@ -298,6 +305,7 @@ module _ {C D Q G : Type 0} (t : Terms C D Q G) (b : Base Q G) where
   one_fewer : (n : ℕ) → n < 18446744073709551616 → 256 ≤ n → (n + (18446744073709551616 - 256)) % 18446744073709551616 + 256 ≡ n
   one_fewer n small enough = omega arith
 
+  -- a seat may put a pin on a cell whose turn it has, while it has fewer pins than it may have
   pub pin_made : (slots id : ℕ) (me : M) (c : ℕ) → c < length b.opening → b.hands ≤ 16 → Has c me.0.held → length me.0.pins < me.0.most
       → Allows Rule slots id me (word_of c) (λ n. (n + 256) % 18446744073709551616) (pins_one t (at_step slots (word_of c) 256 0 none) me)
   pin_made slots id me c inside hands has room s r deep at small = let v : V = me.0 in let w : V = pinned v c in let ok = r.each_seat id v at in let y = ok.turns c has in
@@ -341,6 +349,7 @@ module _ {C D Q G : Type 0} (t : Terms C D Q G) (b : Base Q G) where
         λ c' is'. let e : c ≡ c' = omega (arith, is') in λ i. (pinned v (e i), me.1),
       )
 
+  -- a seat may take a pin off a cell where each of its numbers has fewer links than the seat has pins there
   pub pin_gone : (slots id : ℕ) (me : M) (c : ℕ) → c < length b.opening → 0 < times c me.0.pins → 0 < me.0.base.hands → ((k : ℕ) → Has k me.0.numbers → linked t me.0.base.grounds me.0.seen k c < times c me.0.pins)
       → Allows Rule slots id me (word_of c) (λ n. (n + (18446744073709551616 - 256)) % 18446744073709551616) (unpins_one t (at_step slots (word_of c) 256 0 none) me)
   pin_gone slots id me c inside some_pin alive uncovered s r deep at small = let v : V = me.0 in let w : V = unpinned v c in let ok = r.each_seat id v at in
@@ -414,6 +423,7 @@ module _ {C D Q G : Type 0} (t : Terms C D Q G) (b : Base Q G) where
     first_or d [] = d
     first_or d (x ∷ xs) = x
 
+    -- a seat may stamp an entry for which it has the turns and all else that is asked: the history grows by it, and word 0 by one
     pub stamps_event : (slots id : ℕ) (me : M) (asked : List E) (e : E) → asked ≡ e ∷ [] → b.hands * b.each < 18446744073709551616 → SeatCanStamp t me.0 e → 0 < me.0.base.hands
         → Allows Rule slots id me 0 (λ n. (n + 1) % 18446744073709551616) (stamps_one t asked (at_step slots 0 1 0 none) me)
     stamps_event slots id me asked e asks bound can alive s r deep at small = let v : V = me.0 in let ok = r.each_seat id v at in let w : V = stamped v ok.unseen e in

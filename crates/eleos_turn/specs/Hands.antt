@@ -86,6 +86,7 @@ module _ {D Q G : Type 0} where
   abbrev pub with_pin : HandState D Q G → ℕ → HandState D Q G
   with_pin s c = record s { pins = c ∷ s.pins }
 
+  -- the hand with one pin less on c
   abbrev pub without_pin : HandState D Q G → ℕ → HandState D Q G
   without_pin s c = record s { pins = less_one c s.pins }
 

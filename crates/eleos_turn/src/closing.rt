@@ -1,11 +1,13 @@
 //! A turnstile is closed, with all its hands.
-ghost use Rattle.std.specs.Prelude.{IsTrue, ◌↔◌, ◌≡◌, ◌⊎◌, ◌+◌, ◌*◌, ◌<◌, ◌≤◌, ℕ, List, [], ◌++◌, length, IfOk, IfErr, IsOk, IsErr, Some};
+ghost use Rattle.std.specs.Prelude.{IsTrue, ◌↔◌, ◌≡◌, ◌⊎◌, ◌+◌, ◌*◌, ◌<◌, ◌≤◌, ℕ, List, [], ◌++◌};
+ghost use Rattle.std.specs.Prelude.{length, IfOk, IfErr, IsOk, IsErr, Some};
 ghost use Rattle.eleos_base.specs.declared.plot.Event.{Event};
 ghost use Rattle.eleos_base.specs.Histories.{made, Legal, Signed};
 ghost use Rattle.eleos_base.specs.Ties.{Has};
 ghost use Rattle.eleos_turn.specs.Rule.{base_of};
 ghost use Rattle.eleos_turn.specs.Hands.{IsSound, home_of};
-ghost use Rattle.eleos_turn.specs.Closings.{AreMade, AllOf, AllDone, AllOwn, AllSound, IsDone, IsWhole, HasNumber, AllBegin, left_of};
+ghost use Rattle.eleos_turn.specs.Closings.{AreMade, AllOf, AllDone, AllOwn, AllSound, IsDone};
+ghost use Rattle.eleos_turn.specs.Closings.{IsWhole, HasNumber, AllBegin, left_of};
 
 use crate::answers::Refused;
 use crate::hand::Hand;
@@ -86,13 +88,18 @@ fn is_whole<P: Plot>(hands: &[Hand<P>], count: u32) -> bool
 // The seat takes in all hands.
 fn gather<P: Plot>(cells: &CellTable<P>, seat: &mut Place<P>, hands: Vec<Hand<P>>)
     requires own { seat.old.table_id ≡ cells.now.table.shared.table_id }
-    requires idle { (seat.old.me.1 ≡ []) × (seat.old.me.0.held ≡ []) × (0 < seat.old.me.0.base.hands) }
-    requires hands { AllOf (home_of P.terms cells.now.table.shared.table_id cells.now.table.shared.key) hands.items }
+    requires idle { (seat.old.me.1 ≡ []) × (seat.old.me.0.held ≡ [])
+        × (0 < seat.old.me.0.base.hands) }
+    requires hands { AllOf
+        (home_of P.terms cells.now.table.shared.table_id cells.now.table.shared.key) hands.items }
     requires done { AllDone P.terms hands.items }
-    ensures same { (seat.new.table_id ≡ seat.old.table_id) × (seat.new.me.1 ≡ []) × (seat.new.me.0.held ≡ []) × (seat.new.me.0.base ≡ seat.old.me.0.base) }
-    ensures numbers { (n : ℕ) → Has n seat.old.me.0.numbers ⊎ HasNumber n hands.items → Has n seat.new.me.0.numbers }
+    ensures same { (seat.new.table_id ≡ seat.old.table_id) × (seat.new.me.1 ≡ [])
+        × (seat.new.me.0.held ≡ []) × (seat.new.me.0.base ≡ seat.old.me.0.base) }
+    ensures numbers { (n : ℕ) → Has n seat.old.me.0.numbers ⊎ HasNumber n hands.items
+        → Has n seat.new.me.0.numbers }
     ensures left { seat.new.me.0.left ≡ seat.old.me.0.left + left_of hands.items }
-    ensures begins { ((more : List (Event P.Draft P.Part)) × (seat.new.me.0.seen ≡ seat.old.me.0.seen ++ more)) × AllBegin seat.new.me.0.seen hands.items }
+    ensures begins { ((more : List (Event P.Draft P.Part)) × (seat.new.me.0.seen
+        ≡ seat.old.me.0.seen ++ more)) × AllBegin seat.new.me.0.seen hands.items }
     ensures sound { AllSound P.terms hands.items }
 {
     let mut hands = hands;
@@ -105,7 +112,8 @@ fn gather<P: Plot>(cells: &CellTable<P>, seat: &mut Place<P>, hands: Vec<Hand<P>
 // One seat that has the numbers of all hands and has seen the whole history.
 fn settle<P: Plot>(cells: &CellTable<P>, hands: Vec<Hand<P>>) -> Place<P>
     requires some { 0 < length hands.items }
-    requires hands { AllOf (home_of P.terms cells.now.table.shared.table_id cells.now.table.shared.key) hands.items }
+    requires hands { AllOf
+        (home_of P.terms cells.now.table.shared.table_id cells.now.table.shared.key) hands.items }
     requires done { AllDone P.terms hands.items }
     ensures table { result.table_id ≡ cells.now.table.shared.table_id }
     ensures idle { (result.me.1 ≡ []) × (result.me.0.held ≡ []) }
@@ -141,9 +149,11 @@ impl<P: Plot> Turnstile<P> {
         ensures sound { IfOk result (λ r. IsSound P.terms r.hand) }
         ensures begins { IfOk result (λ r. AllBegin r.hand.seen hands.items) }
         ensures own { IfOk result (λ r. AllOwn P.terms r.hand.seen hands.items) }
-        ensures room { IfOk result (λ r. length r.hand.seen + left_of hands.items ≤ self.base.hands * self.base.each) }
+        ensures room { IfOk result
+            (λ r. length r.hand.seen + left_of hands.items ≤ self.base.hands * self.base.each) }
         ensures count { IfOk result (λ r. length r.cells.items ≡ length self.base.opening) }
-        ensures cells { IfOk result (λ r. AreMade P.terms (length self.base.opening) r.hand r.cells.items) }
+        ensures cells { IfOk result
+            (λ r. AreMade P.terms (length self.base.opening) r.hand r.cells.items) }
     {
         if !is_whole(hands.as_slice(), self.hands) {
             return Err(HandsRefused {
@@ -168,7 +178,8 @@ fn noted_hand<P: Plot>(cells: &CellTable<P>, seat: &mut Place<P>) -> Hand<P>
     requires signed { Signed P.terms seat.old.me.0.base.hands seat.old.me.0.seen }
     requires room { length seat.old.me.0.seen ≤ seat.old.me.0.base.hands * seat.old.me.0.base.each }
     ensures same { (seat.new.table_id ≡ seat.old.table_id) × (seat.new.me ≡ seat.old.me) }
-    ensures home { result.home ≡ home_of P.terms cells.now.table.shared.table_id cells.now.table.shared.key }
+    ensures home { result.home
+        ≡ home_of P.terms cells.now.table.shared.table_id cells.now.table.shared.key }
     ensures number { result.number ≡ 0 }
     ensures seen { result.seen ≡ seat.old.me.0.seen }
     ensures sound { IsSound P.terms result }

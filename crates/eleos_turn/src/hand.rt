@@ -27,7 +27,8 @@ impl<P: Plot> Model for Hand<P> {
 
     ghost view = { λ h. state_of h.seat.table_id h.number h.refused h.seat.me.0 };
 
-    ghost invariant = { λ h. IsHand P.terms (state_of h.seat.table_id h.number h.refused h.seat.me.0) h.seat.me h.left h.turns h.links };
+    ghost invariant = { λ h. IsHand P.terms
+        (state_of h.seat.table_id h.number h.refused h.seat.me.0) h.seat.me h.left h.turns h.links };
 }
 
 impl<P: Plot> Drop for Hand<P> {
@@ -60,9 +61,12 @@ impl<P: Plot> Model for RestHand<P> {
 
     ghost Value = { HandState P.Draft P.Part P.Ground };
 
-    ghost view = { λ h. state_of h.badge.table_id h.number h.refused (only_view P.terms h.badge.views) };
+    ghost view = { λ h. state_of h.badge.table_id h.number h.refused
+        (only_view P.terms h.badge.views) };
 
-    ghost invariant = { λ h. (h.badge.views ≡ only_view P.terms h.badge.views ∷ []) × IsHand P.terms (state_of h.badge.table_id h.number h.refused (only_view P.terms h.badge.views)) (only_view P.terms h.badge.views, []) h.left 0 h.links };
+    ghost invariant = { λ h. (h.badge.views ≡ only_view P.terms h.badge.views ∷ [])
+        × IsHand P.terms (state_of h.badge.table_id h.number h.refused
+        (only_view P.terms h.badge.views)) (only_view P.terms h.badge.views, []) h.left 0 h.links };
 }
 
 impl<P: Plot> Drop for RestHand<P> {

@@ -31,7 +31,8 @@ impl<P: Plot> Turnstile<P> {
         requires hands { (0 < hands) × (hands ≤ 16) }
         requires stamps { (0 < stamps) × (stamps ≤ 2 ^ 40) }
         requires cells { length cells.items < 2 ^ 31 }
-        ensures base { IfOk result (λ r. r.0.base ≡ record { grounds = grounds; opening = map P.terms.part cells.items; hands = hands; each = stamps }) }
+        ensures base { IfOk result
+            (λ r. r.0.base ≡ record { grounds = grounds; opening = map P.terms.part cells.items; hands = hands; each = stamps }) }
         ensures hands { IfOk result (λ r. r.1.items ≡ dealt r.0 0 hands) }
     {
         let told = tell::<P::Ground, Brand>(alloc)?;
@@ -71,8 +72,10 @@ fn deal<P: Plot>(
     stamps: u64,
 ) -> Result<Vec<Hand<P>>, NoMemory>
     requires own { seat.old.table_id ≡ cells.now.table.shared.table_id }
-    requires fresh { let b = base_of P.terms cells.now.table.shared.key in (seat.old.me ≡ (dealing b 0 hands, [])) × (b.hands ≡ hands) × (b.each ≡ stamps) }
-    ensures { IfOk result (λ r. r.items ≡ dealt (home_of P.terms cells.now.table.shared.table_id cells.now.table.shared.key) 0 hands) }
+    requires fresh { let b = base_of P.terms cells.now.table.shared.key in
+        (seat.old.me ≡ (dealing b 0 hands, [])) × (b.hands ≡ hands) × (b.each ≡ stamps) }
+    ensures { IfOk result (λ r. r.items ≡ dealt
+        (home_of P.terms cells.now.table.shared.table_id cells.now.table.shared.key) 0 hands) }
 {
     let Ok(mut dealt) = Vec::with_capacity(alloc, hands as usize) else {
         return Err(NoMemory);

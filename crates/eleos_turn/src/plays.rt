@@ -1,5 +1,6 @@
 //! What each step on the table tells.
-ghost use Rattle.eleos_turn.specs.Plays.{takes_turn, lays, fetches, gives_turn, stays, looks, hears, pins_one, unpins_one, stamps_one};
+ghost use Rattle.eleos_turn.specs.Plays.{takes_turn, lays, fetches, gives_turn, stays, looks};
+ghost use Rattle.eleos_turn.specs.Plays.{hears, pins_one, unpins_one, stamps_one};
 ghost use Rattle.eleos_turn.specs.Views.{dealt_from, dealt_to, noted, joined, harked};
 ghost use Rattle.eleos_turn.specs.Rule.{gone};
 

@@ -3,7 +3,8 @@ ghost use Rattle.std.specs.Prelude.{◌≡◌};
 
 use std::marker::Model;
 
-/// Words behind each value: 64 bytes, so that no two values lie in one line of the processor's cache.
+/// Words behind each value: 64 bytes, so that no two values lie in one line of the processor's
+/// cache.
 const BEHIND: usize = 8;
 
 /// What lies in the slot of a cell: its value, or nothing while somebody has its turn.

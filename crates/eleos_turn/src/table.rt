@@ -1,5 +1,6 @@
 //! The steps of one seat at the table. Hands are seats with a count of what they hold.
-ghost use Rattle.std.specs.Prelude.{vec_capacity, ◌≡◌, ◌+◌, ◌*◌, ◌%◌, ◌<◌, ◌≤◌, ℕ, List, [], ◌∷◌, ◌++◌, length, MatchResult};
+ghost use Rattle.std.specs.Prelude.{vec_capacity, ◌≡◌, ◌+◌, ◌*◌, ◌%◌, ◌<◌, ◌≤◌, ℕ, List, [], ◌∷◌};
+ghost use Rattle.std.specs.Prelude.{◌++◌, length, MatchResult};
 ghost use mathlib.Core.Option.{some};
 ghost use lib.ListN.{get_elem?};
 ghost use Rattle.eleos_base.specs.Ties.{Has};
@@ -48,7 +49,8 @@ impl<P: Plot> CellTable<P> {
     ghost use Rattle.eleos_base.specs.Histories.{linked};
     ghost use Rattle.eleos_turn.specs.Numbers.{times, longer};
     ghost use Rattle.eleos_turn.specs.Views.{freed, pinned, unpinned, noted, harked, joined};
-    ghost use Rattle.eleos_turn.specs.Plays.{SeatTook, SeatStamped, SeatCanStamp, SeesMore, Shows, hears_all};
+    ghost use Rattle.eleos_turn.specs.Plays.{SeatTook, SeatStamped, SeatCanStamp, SeesMore, Shows};
+    ghost use Rattle.eleos_turn.specs.Plays.{hears_all};
 
     pub(crate) fn into_shared(self) -> Shared<P>
         ensures table { result ≡ self.table }
@@ -69,10 +71,22 @@ impl<P: Plot> CellTable<P> {
         requires cell { cell < length self.now.table.shared.key.cells.value.items }
         requires rests { IsAtRest seat.old.me }
         requires made { ((n : ℕ) × Has n seat.old.me.0.numbers) × (0 < seat.old.me.0.base.hands) }
-        ensures same { (seat.new.table_id ≡ seat.old.table_id) × (seat.new.id ≡ seat.old.id) × IsAtRest seat.new.me }
-        ensures took { MatchResult result (λ t. (t.word % 2 ≡ 0) × SeatTook P.terms cell t.word seat.old.me.0 t.value seat.new.me.0) (λ n. (n % 2 ≡ 1) × (seat.new.me ≡ (record seat.old.me.0 { tried = (cell, n); misses = N.missed seat.old.me.0.misses }, seat.old.me.1))) }
+        ensures same { (seat.new.table_id ≡ seat.old.table_id) × (seat.new.id ≡ seat.old.id)
+            × IsAtRest seat.new.me }
+        ensures took { MatchResult result
+            (λ t. (t.word % 2 ≡ 0)
+            × SeatTook P.terms cell t.word seat.old.me.0 t.value seat.new.me.0)
+            (λ n. (n % 2 ≡ 1) × (seat.new.me ≡ (
+              record seat.old.me.0 {
+                tried =
+                    (cell, n);
+                misses = N.missed seat.old.me.0.misses;
+              },
+              seat.old.me.1,
+            ))) }
         ensures plain { MatchResult result (λ t. IsPlain t.word) (λ n. IsPlain n) }
-        ensures pins { MatchResult result (λ t. times cell seat.old.me.0.pins ≤ pins_in t.word) (λ n. times cell seat.old.me.0.pins ≤ pins_in n) }
+        ensures pins { MatchResult result (λ t. times cell seat.old.me.0.pins ≤ pins_in t.word)
+            (λ n. times cell seat.old.me.0.pins ≤ pins_in n) }
     {
         let bits = if touch { BUSY + REF } else { BUSY };
         let word = self
@@ -107,8 +121,10 @@ impl<P: Plot> CellTable<P> {
         requires cell { cell < length self.now.table.shared.key.cells.value.items }
         requires rests { IsAtRest seat.old.me }
         requires made { ((n : ℕ) × Has n seat.old.me.0.numbers) × (0 < seat.old.me.0.base.hands) }
-        ensures same { (seat.new.table_id ≡ seat.old.table_id) × (seat.new.id ≡ seat.old.id) × IsAtRest seat.new.me }
-        ensures took { (result.word % 2 ≡ 0) × SeatTook P.terms cell result.word seat.old.me.0 result.value seat.new.me.0 }
+        ensures same { (seat.new.table_id ≡ seat.old.table_id) × (seat.new.id ≡ seat.old.id)
+            × IsAtRest seat.new.me }
+        ensures took { (result.word % 2 ≡ 0)
+            × SeatTook P.terms cell result.word seat.old.me.0 result.value seat.new.me.0 }
         ensures plain { IsPlain result.word }
         ensures pins { times cell seat.old.me.0.pins ≤ pins_in result.word }
     {
@@ -127,7 +143,9 @@ impl<P: Plot> CellTable<P> {
         requires cell { cell < length self.now.table.shared.key.cells.value.items }
         requires rests { IsAtRest seat.old.me }
         requires held { Has cell seat.old.me.0.held }
-        requires right { (P.terms.part value ≡ made P.terms seat.old.me.0.base seat.old.me.0.seen cell) × (0 < seat.old.me.0.base.hands) }
+        requires right { (P.terms.part value
+            ≡ made P.terms seat.old.me.0.base seat.old.me.0.seen cell)
+            × (0 < seat.old.me.0.base.hands) }
         ensures same { (seat.new.table_id ≡ seat.old.table_id) × (seat.new.id ≡ seat.old.id) }
         ensures given { seat.new.me ≡ (freed seat.old.me.0 cell, []) }
     {
@@ -150,7 +168,14 @@ impl<P: Plot> CellTable<P> {
         requires own { seat.old.table_id ≡ self.now.table.shared.table_id }
         requires cell { cell < length self.now.table.shared.key.cells.value.items }
         ensures same { seat.new.table_id ≡ seat.old.table_id }
-        ensures noted { seat.new.me ≡ (record seat.old.me.0 { looked = (cell, result); looks = seat.old.me.0.looks + 1 }, seat.old.me.1) }
+        ensures noted { seat.new.me ≡ (
+          record seat.old.me.0 {
+            looked =
+                (cell, result);
+            looks = seat.old.me.0.looks + 1;
+          },
+          seat.old.me.1,
+        ) }
         ensures shows { Shows seat.old.me.0 cell result }
     {
         self.table
@@ -164,9 +189,12 @@ impl<P: Plot> CellTable<P> {
         entry: &P::Draft,
     ) -> u64
         requires own { seat.old.table_id ≡ self.now.table.shared.table_id }
-        requires can { (e : Event P.Draft P.Part) × (N.asked ≡ e ∷ []) × SeatCanStamp P.terms seat.old.me.0 e × (0 < seat.old.me.0.base.hands) }
-        ensures same { (seat.new.table_id ≡ seat.old.table_id) × (seat.new.id ≡ seat.old.id) × (seat.new.me.1 ≡ seat.old.me.1) }
-        ensures stamped { (e : Event P.Draft P.Part) → N.asked ≡ e ∷ [] → SeatStamped P.terms e seat.old.me.0 result seat.new.me.0 }
+        requires can { (e : Event P.Draft P.Part) × (N.asked ≡ e ∷ [])
+            × SeatCanStamp P.terms seat.old.me.0 e × (0 < seat.old.me.0.base.hands) }
+        ensures same { (seat.new.table_id ≡ seat.old.table_id) × (seat.new.id ≡ seat.old.id)
+            × (seat.new.me.1 ≡ seat.old.me.1) }
+        ensures stamped { (e : Event P.Draft P.Part) → N.asked ≡ e ∷ []
+            → SeatStamped P.terms e seat.old.me.0 result seat.new.me.0 }
     {
         let _ = entry;
         self.table.shared.fetch_add::<Stamp<P, N>>(seat, 0, 1)
@@ -188,7 +216,9 @@ impl<P: Plot> CellTable<P> {
     pub(crate) fn unpin(&self, seat: &mut Place<P>, cell: u32)
         requires own { seat.old.table_id ≡ self.now.table.shared.table_id }
         requires cell { cell < length self.now.table.shared.key.cells.value.items }
-        requires pin { (0 < times cell seat.old.me.0.pins) × ((k : ℕ) → Has k seat.old.me.0.numbers → linked P.terms seat.old.me.0.base.grounds seat.old.me.0.seen k cell < times cell seat.old.me.0.pins) }
+        requires pin { (0 < times cell seat.old.me.0.pins)
+            × ((k : ℕ) → Has k seat.old.me.0.numbers
+            → linked P.terms seat.old.me.0.base.grounds seat.old.me.0.seen k cell < times cell seat.old.me.0.pins) }
         requires alive { 0 < seat.old.me.0.base.hands }
         ensures same { seat.new.table_id ≡ seat.old.table_id }
         ensures unpinned { seat.new.me ≡ (unpinned seat.old.me.0 cell, seat.old.me.1) }
@@ -213,18 +243,26 @@ impl<P: Plot> CellTable<P> {
     pub(crate) fn note(&self, seat: &mut Place<P>) -> Place<P>
         requires own { seat.old.table_id ≡ self.now.table.shared.table_id }
         ensures same { (seat.new.table_id ≡ seat.old.table_id) × (seat.new.me ≡ seat.old.me) }
-        ensures given { (result.table_id ≡ seat.old.table_id) × (result.me ≡ (noted seat.old.me.0, [])) }
+        ensures given { (result.table_id ≡ seat.old.table_id)
+            × (result.me ≡ (noted seat.old.me.0, [])) }
     {
         self.table.shared.split_seat::<Note>(seat)
     }
 
     // From now on the seat has the numbers of the other, and has seen what it has seen.
     pub(crate) fn hear(&self, seat: &mut Place<P>, other: Place<P>)
-        requires own { (seat.old.table_id ≡ self.now.table.shared.table_id) × (other.table_id ≡ self.now.table.shared.table_id) }
-        requires idle { (other.me.1 ≡ []) × (other.me.0.held ≡ []) × (0 < seat.old.me.0.base.hands) }
-        ensures same { (seat.new.table_id ≡ seat.old.table_id) × (seat.new.id ≡ seat.old.id) × (seat.new.me.1 ≡ seat.old.me.1) }
-        ensures heard { (more : List (Event P.Draft P.Part)) × (seat.new.me.0 ≡ record (joined seat.old.me.0 other.me.0) { seen = longer seat.old.me.0.seen other.me.0.seen ++ more; told = [] }) }
-        ensures begins { ((more : List (Event P.Draft P.Part)) × (seat.new.me.0.seen ≡ seat.old.me.0.seen ++ more)) × ((more : List (Event P.Draft P.Part)) × (seat.new.me.0.seen ≡ other.me.0.seen ++ more)) }
+        requires own { (seat.old.table_id ≡ self.now.table.shared.table_id)
+            × (other.table_id ≡ self.now.table.shared.table_id) }
+        requires idle { (other.me.1 ≡ []) × (other.me.0.held ≡ [])
+            × (0 < seat.old.me.0.base.hands) }
+        ensures same { (seat.new.table_id ≡ seat.old.table_id) × (seat.new.id ≡ seat.old.id)
+            × (seat.new.me.1 ≡ seat.old.me.1) }
+        ensures heard { (more : List (Event P.Draft P.Part))
+            × (seat.new.me.0 ≡ record
+            (joined seat.old.me.0 other.me.0) { seen = longer seat.old.me.0.seen other.me.0.seen ++ more; told = [] }) }
+        ensures begins { ((more : List (Event P.Draft P.Part))
+            × (seat.new.me.0.seen ≡ seat.old.me.0.seen ++ more)) × ((more : List
+            (Event P.Draft P.Part)) × (seat.new.me.0.seen ≡ other.me.0.seen ++ more)) }
     {
         self.table.shared.join_seat::<Hear<P>>(seat, other);
         self.table.shared.load::<Know<P>>(seat, 0);
@@ -232,11 +270,19 @@ impl<P: Plot> CellTable<P> {
 
     // From now on the seat has seen the whole history, and what the other has seen begins it.
     pub(crate) fn hark(&self, seat: &mut Place<P>, other: Place<P>)
-        requires own { (seat.old.table_id ≡ self.now.table.shared.table_id) × (other.table_id ≡ self.now.table.shared.table_id) }
-        requires idle { (other.me.1 ≡ []) × (other.me.0.held ≡ []) × (other.me.0.numbers ≡ []) × (0 < seat.old.me.0.base.hands) }
-        ensures same { (seat.new.table_id ≡ seat.old.table_id) × (seat.new.id ≡ seat.old.id) × (seat.new.me.1 ≡ seat.old.me.1) }
-        ensures heard { (more : List (Event P.Draft P.Part)) × (seat.new.me.0 ≡ record (harked seat.old.me.0 other.me.0) { seen = seat.old.me.0.seen ++ more; told = [] }) × SeesMore P.terms (harked seat.old.me.0 other.me.0) more × (length (seat.old.me.0.seen ++ more) + seat.new.me.0.left ≤ seat.new.me.0.base.hands * seat.new.me.0.base.each) }
-        ensures begins { (rest : List (Event P.Draft P.Part)) × (seat.new.me.0.seen ≡ other.me.0.seen ++ rest) }
+        requires own { (seat.old.table_id ≡ self.now.table.shared.table_id)
+            × (other.table_id ≡ self.now.table.shared.table_id) }
+        requires idle { (other.me.1 ≡ []) × (other.me.0.held ≡ []) × (other.me.0.numbers ≡ [])
+            × (0 < seat.old.me.0.base.hands) }
+        ensures same { (seat.new.table_id ≡ seat.old.table_id) × (seat.new.id ≡ seat.old.id)
+            × (seat.new.me.1 ≡ seat.old.me.1) }
+        ensures heard { (more : List (Event P.Draft P.Part))
+            × (seat.new.me.0 ≡ record
+            (harked seat.old.me.0 other.me.0) { seen = seat.old.me.0.seen ++ more; told = [] })
+            × SeesMore P.terms (harked seat.old.me.0 other.me.0) more × (length (seat.old.me.0.seen
+            ++ more) + seat.new.me.0.left ≤ seat.new.me.0.base.hands * seat.new.me.0.base.each) }
+        ensures begins { (rest : List (Event P.Draft P.Part))
+            × (seat.new.me.0.seen ≡ other.me.0.seen ++ rest) }
     {
         self.table.shared.join_seat::<Hark<P>>(seat, other);
         self.table.shared.load::<Know<P>>(seat, 0);
@@ -263,9 +309,12 @@ pub(crate) fn emptied<P: Plot>(
     requires sized { IsSized table.shared.table_id table.shared.key }
     requires idle { (seat.me.0.held ≡ []) × (0 < seat.me.0.base.hands) }
     requires all { (n : ℕ) → 0 < n → n ≤ table.shared.key.hands → Has n seat.me.0.numbers }
-    requires room { (room.items ≡ []) × (length table.shared.key.cells.value.items ≤ vec_capacity room) }
+    requires room { (room.items ≡ [])
+        × (length table.shared.key.cells.value.items ≤ vec_capacity room) }
     ensures count { length result.items ≡ length table.shared.key.cells.value.items }
-    ensures cells { (c : ℕ) → c < length table.shared.key.cells.value.items → (x : P.Cell) × (get_elem? result.items c ≡ some (Some x)) × (P.terms.part x ≡ made P.terms seat.me.0.base seat.me.0.seen c) }
+    ensures cells { (c : ℕ) → c < length table.shared.key.cells.value.items
+        → (x : P.Cell) × (get_elem? result.items c ≡ some (Some x))
+        × (P.terms.part x ≡ made P.terms seat.me.0.base seat.me.0.seen c) }
 {
     let mut room = room;
     let mut closed = table.close_with(seat);

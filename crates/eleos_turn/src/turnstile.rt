@@ -1,8 +1,11 @@
 //! The calls on a turnstile, which any thread may make with a hand of its own.
-ghost use Rattle.std.specs.Prelude.{vec_capacity, ◌≡◌, ◌+◌, ◌-◌, ◌<◌, ◌≤◌, ◌^◌, ℕ, List, [], length, min, IfOk, IfErr, MatchResult};
+ghost use Rattle.std.specs.Prelude.{vec_capacity, ◌≡◌, ◌+◌, ◌-◌, ◌<◌, ◌≤◌, ◌^◌, ℕ, List, []};
+ghost use Rattle.std.specs.Prelude.{length, min, IfOk, IfErr, MatchResult};
 ghost use Rattle.eleos_base.specs.Ties.{Has};
 ghost use Rattle.eleos_base.specs.declared.plot.Tied.TheVariants.{Adds, Takes};
-ghost use Rattle.eleos_turn.specs.Hands.{IsSound, Took, CanStamp, Stamped, Heard, part_of, links_on, without_turn, with_pin, without_pin, split_of, tallied, refused_at, looked_at, home_of};
+ghost use Rattle.eleos_turn.specs.Hands.{IsSound, Took, CanStamp, Stamped, Heard, part_of};
+ghost use Rattle.eleos_turn.specs.Hands.{links_on, without_turn, with_pin, without_pin, split_of};
+ghost use Rattle.eleos_turn.specs.Hands.{tallied, refused_at, looked_at, home_of};
 ghost use Rattle.eleos_turn.specs.Numbers.{times, most_pins};
 ghost use Rattle.eleos_base.specs.Words.{IsBusy, IsFree, IsPlain, pins_in};
 
@@ -29,7 +32,9 @@ impl<P: Plot> Model for Turnstile<P> {
 
     ghost view = { λ a. home_of P.terms a.cells.table.shared.table_id a.cells.table.shared.key };
 
-    ghost invariant = { λ a. (a.room.items ≡ []) × (length a.cells.table.shared.key.cells.value.items ≤ vec_capacity a.room) × (a.hands ≡ a.cells.table.shared.key.hands) × (0 < a.hands) };
+    ghost invariant = { λ a. (a.room.items ≡ [])
+        × (length a.cells.table.shared.key.cells.value.items ≤ vec_capacity a.room)
+        × (a.hands ≡ a.cells.table.shared.key.hands) × (0 < a.hands) };
 }
 
 impl<P: Plot> Drop for Turnstile<P> {
@@ -226,8 +231,10 @@ impl<P: Plot> Turnstile<P> {
 
     // The table, and the room that `make` took for the values.
     pub(crate) fn into_parts(self) -> (CellTable<P>, Vec<Option<P::Cell>>)
-        ensures home { home_of P.terms result.0.table.shared.table_id result.0.table.shared.key ≡ self }
-        ensures room { (result.1.items ≡ []) × (length result.0.table.shared.key.cells.value.items ≤ vec_capacity result.1) }
+        ensures home { home_of P.terms result.0.table.shared.table_id result.0.table.shared.key
+            ≡ self }
+        ensures room { (result.1.items ≡ [])
+            × (length result.0.table.shared.key.cells.value.items ≤ vec_capacity result.1) }
     {
         let Turnstile {
             cells,

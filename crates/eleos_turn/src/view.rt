@@ -1,5 +1,6 @@
 //! What a seat knows, and the rule of the table.
-//! Word 0 is the length of the history. The word of a cell is odd while somebody has its turn; it lies
+//! Word 0 is the length of the history. The word of a cell is odd while somebody has its turn; it
+//! lies
 //! in a line of the processor's cache of its own, as word 0 does.
 //! The slot c has the cell's value, and is empty while somebody has its turn.
 ghost use Rattle.std.specs.Prelude.{ℕ, ◌+◌, List, []};

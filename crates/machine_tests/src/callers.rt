@@ -1,4 +1,5 @@
-// Two callers of one machine: the calls on blocks and the accesses, in turn, each with what it says.
+// Two callers of one machine: the calls on blocks and the accesses, in turn, each with what it
+// says.
 ghost use Rattle.std.specs.Prelude.{◌≡◌, [], length, IfOk, IfSome};
 ghost use Rattle.eleos_turn.specs.Hands.{dealt, fresh};
 ghost use Rattle.eleos_machine.specs.Closing.{hands_of};
@@ -21,7 +22,8 @@ use std::test::*;
 // The cell of the second page.
 const SECOND_PAGE: u32 = 6;
 
-// Two enclaves of one page each, and two callers in the second one. There both may use the first two
+// Two enclaves of one page each, and two callers in the second one. There both may use the first
+// two
 // sub-pages, which have the places 4 and 5, and caller 2 alone the third.
 fn plan_of_two(alloc: Global) -> Result<Plan, AllocError>
     ensures callers { IfOk result (λ plan. length plan.callers ≡ 2) }
@@ -52,7 +54,8 @@ fn address(at: u32) -> Addr {
     Addr { enclave: 1, at }
 }
 
-// The machine of the plan, with a pass for each of the two callers, for the swapper and for the balloon.
+// The machine of the plan, with a pass for each of the two callers, for the swapper and for the
+// balloon.
 fn machine_of_two(alloc: Global) -> Result<(Machine<Gcm>, Vec<Pass>), Fail>
     ensures callers { IfOk result (λ made. length (plan_at made.0).callers ≡ 2) }
     ensures cells { IfOk result (λ made. all_cells (plan_at made.0) ≡ 7) }
@@ -71,7 +74,8 @@ fn machine_of_two(alloc: Global) -> Result<(Machine<Gcm>, Vec<Pass>), Fail>
 // The passes of two callers, before those of the swapper and of the balloon.
 fn two_passes(machine: &Machine<Gcm>, passes: Vec<Pass>) -> Option<(Pass, Pass)>
     requires { hands_of passes.items ≡ dealt machine.now 0 4 }
-    ensures { IfSome result (λ p. (p.0.hand ≡ fresh machine.now 1) × (p.1.hand ≡ fresh machine.now 2)) }
+    ensures { IfSome result
+        (λ p. (p.0.hand ≡ fresh machine.now 1) × (p.1.hand ≡ fresh machine.now 2)) }
 {
     let _ = machine;
     let mut passes = passes;
@@ -278,7 +282,9 @@ impl<'a> Model for Caller<'a> {
 
     ghost view = { λ c. c.machine.now };
 
-    ghost invariant = { λ c. (c.pass.hand.home ≡ c.machine.now) × IsCaller (plan_at c.machine.now) c.pass.hand.number × (c.pass.hand.turns ≡ []) × (all_cells (plan_at c.machine.now) ≡ 7) };
+    ghost invariant = { λ c. (c.pass.hand.home ≡ c.machine.now)
+        × IsCaller (plan_at c.machine.now) c.pass.hand.number × (c.pass.hand.turns ≡ [])
+        × (all_cells (plan_at c.machine.now) ≡ 7) };
 }
 
 impl<'a> Caller<'a> {

@@ -44,7 +44,8 @@ fn plan_of(
     })
 }
 
-// Pages of each enclave, callers, wear, and bytes and owner of each block of a plan, and its first bad field.
+// Pages of each enclave, callers, wear, and bytes and owner of each block of a plan, and its first
+// bad field.
 const PLANS: [(&[u32], &[u16], u64, &[(u32, u32)], Option<PlanField>); 8] = [
     (&[1, 2], &[0, 1], 9, &[(4096, 1)], None),
     (&[], &[], 0, &[], Some(PlanField::Enclaves)),
@@ -102,7 +103,8 @@ fn sent<T: Send>() {}
 // The passes of a caller, of the swapper and of the balloon.
 fn three_passes(machine: &Machine<Gcm>, passes: Vec<Pass>) -> Option<(Pass, Pass, Pass)>
     requires { hands_of passes.items ≡ dealt machine.now 0 3 }
-    ensures { IfSome result (λ p. (p.0.hand ≡ fresh machine.now 1) × (p.1.hand ≡ fresh machine.now 2)
+    ensures { IfSome result
+        (λ p. (p.0.hand ≡ fresh machine.now 1) × (p.1.hand ≡ fresh machine.now 2)
         × (p.2.hand ≡ fresh machine.now 3)) }
 {
     let _ = machine;

@@ -34,5 +34,6 @@ impl Plot for Tallies {
         Tied::No
     }
 
-    ghost local = { λ g e b a b' a' same h. let s = same e.cell (inl refl) in s.1 ∙ (h ∙ ap (λ n. n + 1) (sym s.0)) };
+    ghost local = { λ g e b a b' a' same h. let s = same e.cell (inl refl) in s.1 ∙
+        (h ∙ ap (λ n. n + 1) (sym s.0)) };
 }

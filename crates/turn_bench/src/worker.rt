@@ -64,7 +64,8 @@ fn make_worker(hand: Hand<Tallies>, by: u32, distance: u32) -> Worker
     }
 }
 
-// One round: takes the cell's turn, stamps an entry and gives the turn back. Answers the count then.
+// One round: takes the cell's turn, stamps an entry and gives the turn back. Answers the count
+// then.
 // None where no stamp is left or the count is at its greatest.
 fn round<R: Wait>(
     rt: &R,

@@ -42,7 +42,8 @@ impl Plot for Counters {
         Tied::No
     }
 
-    ghost local = { λ g e b a b' a' same h c in_foot. let s = same c in_foot in s.1 ∙ (h c in_foot ∙ ap (λ n. n + 1) (sym s.0)) };
+    ghost local = { λ g e b a b' a' same h c in_foot. let s = same c in_foot in s.1 ∙
+        (h c in_foot ∙ ap (λ n. n + 1) (sym s.0)) };
 }
 
 /// Looks at a cell twice, and answers what it found.

@@ -1,7 +1,7 @@
 use Rattle.std.proofs.Common.{◌∷◌, ◌++◌, [], map, sym, ap, ◌∙◌, append_assoc}
 use Rattle.eleos_core.specs.declared.cells.frame.Frame.{Frame as Frames}
 use Rattle.eleos_core.specs.Cells.{IsUse, part_of_frame}
-use Rattle.eleos_core.specs.Places.{all_pages}
+use Rattle.eleos_base.specs.Places.{all_pages}
 use Rattle.eleos_plot.specs.declared.cell.Cell.TheVariants.{Frame}
 use Rattle.eleos_plot.specs.Cells.{part_of_cell}
 use Rattle.eleos_plot.proofs.Fitting.{cells_show}

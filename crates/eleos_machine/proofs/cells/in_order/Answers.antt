@@ -4,7 +4,7 @@ use Rattle.eleos_base.specs.declared.plan.Plan.{Plan}
 use Rattle.eleos_core.specs.declared.cells.frame.Frame.{Frame}
 use Rattle.eleos_core.specs.Cells.{IsUse, part_of_frame, part_of_page}
 use Rattle.eleos_core.specs.Parts.{alloc_part, clock_part}
-use Rattle.eleos_core.specs.Places.{all_pages}
+use Rattle.eleos_base.specs.Places.{all_pages}
 use Rattle.eleos_plot.specs.Cells.{part_of_cell}
 use Rattle.eleos_machine.proofs.CellsInOrder.{opening_of}
 use Rattle.eleos_machine.proofs.cells.in_order.Goals as goal

@@ -6,7 +6,7 @@ use Rattle.eleos_plot.specs.declared.plot.Ground.{Ground}
 use Rattle.eleos_turn.specs.Hands.{HandState}
 use Rattle.eleos_machine.specs.Machines.{Site, all_cells, plan_at}
 use Rattle.eleos_machine.specs.Passes.{PassState, TookTurn, gave}
-use Rattle.eleos_direct.proofs.Ending.{only_turn}
+use Rattle.eleos_pages.proofs.Ending.{only_turn}
 use Rattle.machine_tests.proofs.callers.Caller.holds.Goals as goal
 
 -- a caller's pass of this machine that has no turn

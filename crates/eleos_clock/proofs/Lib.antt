@@ -1,0 +1,13 @@
+pub mod Lists
+pub mod Once
+pub mod Noted
+pub mod Steps
+pub mod Seen
+pub mod Pages
+pub mod Visiting
+pub mod Rounding
+pub mod Searching
+pub mod Starving
+pub mod TakenClocks
+pub mod Owned
+pub mod Noting
