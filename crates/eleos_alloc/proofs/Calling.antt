@@ -18,7 +18,7 @@ use Rattle.eleos_core.specs.declared.event.Event.TheVariants.{Op}
 use Rattle.eleos_core.specs.Applying.{stamp_of}
 use Rattle.eleos_core.specs.Order.{AreInOrder}
 use Rattle.eleos_core.specs.Parts.{Cell as Numbered, MayStep, Part, Stamp, alloc_cell, alloc_part, foot, live_in, page_cell, pages_of_run, part_after}
-use Rattle.eleos_core.specs.Places.{all_pages, first_sub, subs}
+use Rattle.eleos_base.specs.Places.{all_pages, first_sub, subs}
 use Rattle.eleos_core.specs.Seals.{Seals}
 use Rattle.eleos_core.specs.State.{live_by}
 use Rattle.eleos_core.proofs.Allotting.{Marks, alloc_marks, live_home}
@@ -30,6 +30,7 @@ use Rattle.eleos_core.proofs.SubPages.{few_pages, home_within, is_home}
 use Rattle.eleos_plot.specs.Terms.{core_terms}
 use Rattle.eleos_turn.proofs.Clients.{goes_links}
 use Rattle.eleos_machine.specs.Machines.{IsMachine, Site, plan_at}
+use Rattle.eleos_machine.specs.Notes.{after_entry}
 use Rattle.eleos_machine.specs.Passes.{PassState, part_seen, plan_of, seals_of}
 use Rattle.eleos_machine.specs.Stamping.{HasStamped, MayStamp}
 use Rattle.eleos_alloc.specs.declared.runs.Run.{Run}
@@ -89,7 +90,7 @@ called s op reply len s' is = record {
   pins = is.pins;
   links = goes_links core_terms s.hand s'.hand ((is.place, stamp_of s.hand.number (Op op) [] reply len) ∷ []) is.goes (refl, tt);
   refused = is.refused;
-  rest = is.rest ∙ ap (λ d. record s { hand = s'.hand; draft = d }) (sym (ap (λ (y : PassState). y.draft) is.rest));
+  rest = is.rest ∙ ap (λ d. record s { hand = s'.hand; draft = d; sweep = after_entry (Op op) s.sweep }) (sym (ap (λ (y : PassState). y.draft) is.rest));
 }
 
 -- a caller's pass that has the turn of its enclave's live blocks
@@ -131,10 +132,12 @@ module _ (s : PassState) (blocks : List Live) (good : IsGood (plan_of s)) (calle
   abbrev pub TouchesBlocks : Calls → Reply → ℕ → Type 0
   TouchesBlocks op reply len = foot k (stamp_of who (Op op) [] reply len) ≡ alloc_cell k home ∷ []
 
+  -- it may be stamped where it is legal on the enclave's blocks, which are all that it touches
   pub may_refuse : (op : Calls) (reply : Reply) (len : ℕ) → TouchesBlocks op reply len → IsLegal op reply len → MayStamp (drafted s op reply len)
   may_refuse op reply len foot_is legal = may_call (drafted s op reply len) op refl some_left refl
       (λ c in_foot. subst (Has c) (foot_is ∙ sym holds.turns) in_foot) (legal (part_seen s) refl)
 
+  -- once it is stamped, the enclave's blocks are what it makes of them
   pub refused_blocks : (op : Calls) (reply : Reply) (len : ℕ) (s' : PassState) → TouchesBlocks op reply len → HasStampedWith (drafted s op reply len) s' → part_seen s' (alloc_cell k home) ≡ alloc_part (blocks_after 1024 home who op reply blocks)
   refused_blocks op reply len s' foot_is is = blocks_then op reply len s' (subst (Has (alloc_cell k home)) (sym foot_is) (inl refl)) is
 
@@ -151,6 +154,7 @@ module _ (s : PassState) (blocks : List Live) (good : IsGood (plan_of s)) (calle
     in_foot_is : foot k (stamp_of who (Op op) [] reply len) ≡ alloc_cell k home ∷ map (page_cell k) (range_with_len (run.start / 4) (end_of run - run.start / 4))
     in_foot_is = foot_is ∙ ap (λ ps. alloc_cell k home ∷ map (page_cell k) ps) pages_are
 
+    -- it may be stamped once the pass has the turns of the run's pages, from the first on
     pub can_stamp_with : CanStampWith (drafted s op reply len) run mark (run.start / 4)
     can_stamp_with =
         let most = few_pages k good in
@@ -179,6 +183,7 @@ module _ (s : PassState) (blocks : List Live) (good : IsGood (plan_of s)) (calle
           marks = marks;
         }
 
+    -- once it is stamped, the enclave's blocks are what it makes of them
     pub accepted_blocks : (s' : PassState) → HasStampedWith (drafted s op reply len) s' → part_seen s' (alloc_cell k home) ≡ alloc_part (blocks_after 1024 home who op reply blocks)
     accepted_blocks s' is = blocks_then op reply len s' (subst (Has (alloc_cell k home)) (sym foot_is) (inl refl)) is
 
@@ -249,18 +254,23 @@ module _ (s : PassState) (blocks : List Live) (good : IsGood (plan_of s)) (calle
 
 -- the same in the words of the code, which has the machine's plan and the caller's enclave
 module _ (z : Site) (e : ℕ) (s : PassState) (blocks : List Live) (machine : IsMachine z) (can : CanCallWith z e blocks s) where
+  -- the machine's plan is that of the pass
   pub plan_is : plan_at z ≡ plan_of s
   plan_is = ap (λ (y : Site). plan_at y) (sym can.own)
 
+  -- the pass's plan is good
   pub is_good : IsGood (plan_of s)
   is_good = subst IsGood plan_is machine.made.good
 
+  -- the pass is a caller's
   pub is_caller : IsCaller (plan_of s) s.hand.number
   is_caller = subst (λ (k' : Plan). IsCaller k' s.hand.number) plan_is can.caller
 
+  -- the enclave is that of the caller
   pub is_here : e ≡ enclave_of (plan_of s) s.hand.number
   is_here = can.home ∙ ap (λ (k' : Plan). enclave_of k' s.hand.number) plan_is
 
+  -- the pass has the turn of the blocks of its caller's enclave, and they are these
   pub holds_here : HoldsBlocks (enclave_of (plan_of s) s.hand.number) s blocks
   holds_here = subst (λ z. HoldsBlocks z s blocks) is_here can.holds
 
@@ -279,10 +289,12 @@ module _ (z : Site) (e : ℕ) (s : PassState) (blocks : List Live) (machine : Is
     searched k' subs' len' run is subs_are len_is run_is = sym (run_is ∙ (λ t. lowest_run blocks ((subs_are ∙ (λ i. subs ((is ∙ plan_is) i) (is_here i))) t) (len_is t)))
 
     module _ (none : lowest_run blocks (subs (plan_of s) (enclave_of (plan_of s) s.hand.number)) (subs_for 1024 n) ≡ None) where
+      -- where no free run is long enough, the alloc may be stamped with the reply that there is no space
       pub may_refuse_alloc : (s1 : PassState) → s1 ≡ drafted s (calls.Alloc n) NoSpace 0 → MayStamp s1
       may_refuse_alloc s1 is = subst MayStamp (sym is) (may_refuse s blocks is_good is_caller can.left holds_here (calls.Alloc n) NoSpace 0
           (no_space_touches s blocks is_good is_caller can.left holds_here n good_n) (no_space s blocks is_good is_caller can.left holds_here n good_n none))
 
+      -- once it is stamped, the call got this reply, and the enclave's blocks are as before
       pub refused_alloc : (s1 s2 : PassState) (place : ℕ) → s1 ≡ drafted s (calls.Alloc n) NoSpace 0 → HasStamped s1 place s2
           → HasCalled s (calls.Alloc n) NoSpace s2 × (part_seen s2 (alloc_cell (plan_at z) e) ≡ alloc_part blocks)
       refused_alloc s1 s2 place is stamped =
@@ -306,9 +318,11 @@ module _ (z : Site) (e : ℕ) (s : PassState) (blocks : List Live) (machine : Is
         start_is : first + start ≡ first_sub (plan_of s) (enclave_of (plan_of s) s.hand.number) + start
         start_is = ap (λ m. m + start) (first_is ∙ (λ i. first_sub ((is ∙ plan_is) i) (is_here i)))
 
+        -- the run ends at sub-page 16384 of the machine at the latest
         pub small : first + start + len' ≤ 16384
         small = let within = run_within s blocks is_good is_caller can.left holds_here n good_n start found in let most = few_pages (plan_of s) is_good in let at = start_is in omega arith
 
+        -- the enclave has fewer than 4096 blocks, so that there is room for one more
         pub has_room : length blocks < 4096
         has_room = room s blocks is_good is_caller can.left holds_here n good_n start found some
 
@@ -318,12 +332,14 @@ module _ (z : Site) (e : ℕ) (s : PassState) (blocks : List Live) (machine : Is
         block_is : block_made ≡ block_there s blocks is_good is_caller can.left holds_here n good_n start found
         block_is = λ i. record { start = start; len = len_is i; owner = owner_is i; is_shared = false }
 
+        -- the alloc may be stamped once the pass has the turns of its pages; it clears their sub-pages for the new block
         pub can_stamp_alloc : (s1 : PassState) (p : ℕ) → s1 ≡ drafted s (calls.Alloc n) got_at 0 → p ≡ (first + start) / 4 → CanStampWith s1 run_made (Blank (Some block_made)) p
         can_stamp_alloc s1 p drafted_is p_is =
             subst (λ (y : PassState × (Run × (Live × ℕ))). CanStampWith y.0 y.1.0 (Blank (Some y.1.1.0)) y.1.1.1)
             (sym (λ i. ((drafted_is ∙ ap (λ reply. drafted s (calls.Alloc n) reply 0) reply_is) i, (record { start = start_is i; len = len_is i }, (block_is i, (p_is ∙ ap (λ m. m / 4) start_is) i)))))
             (can_alloc s blocks is_good is_caller can.left holds_here n good_n start found some)
 
+        -- once it is stamped, the call got its block, which is then among the enclave's
         pub done_alloc : (s1 s2 : PassState) (blocks' : List Live) → s1 ≡ drafted s (calls.Alloc n) got_at 0 → HasStampedWith s1 s2 → blocks' ≡ with_block block_made blocks
             → HasCalled s (calls.Alloc n) got_at s2 × (part_seen s2 (alloc_cell (plan_at z) e) ≡ alloc_part blocks')
         done_alloc s1 s2 blocks' drafted_is stamped blocks_are =

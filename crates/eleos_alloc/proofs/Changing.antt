@@ -13,7 +13,7 @@ use Rattle.eleos_core.specs.declared.event.Event.TheVariants.{Op}
 use Rattle.eleos_core.specs.Applying.{stamp_of}
 use Rattle.eleos_core.specs.Order.{AreInOrder}
 use Rattle.eleos_core.specs.Parts.{Part, alloc_cell, alloc_part, foot, len_at, live_in, page_cell, pages_of_run}
-use Rattle.eleos_core.specs.Places.{all_pages, first_sub, subs}
+use Rattle.eleos_base.specs.Places.{all_pages, first_sub, subs}
 use Rattle.eleos_core.specs.Seals.{Seals}
 use Rattle.eleos_core.proofs.Allotting.{Marks, free_marks, share_marks}
 use Rattle.eleos_core.proofs.FreeRuns.{by_test}
@@ -174,9 +174,11 @@ module _ (z : Site) (e : ℕ) (s : PassState) (blocks : List Live) (machine : Is
     refused_here : block_refusal s.hand.number (find (starts_at 1024 (enclave_of (plan_of s) s.hand.number) at) blocks) ≡ Some reply
     refused_here = (λ i. block_refusal (sym who_is i) (sym found_here i)) ∙ refused
 
+    -- where no block of the caller's own starts there, the free or share may be stamped with its refusal
     pub may_refuse_at : (s1 : PassState) → IsDrafted s1 reply → MayStamp s1
     may_refuse_at s1 is = subst MayStamp (sym (like s1 reply is)) (may_refuse_change s blocks good caller can.left holds at reply refused_here change)
 
+    -- once it is stamped, the call got this refusal, and the enclave's blocks are as before
     pub refused_at : (s1 s2 : PassState) (place : ℕ) → IsDrafted s1 reply → HasStamped s1 place s2 → HasCalled s (call_of change at) reply s2 × (part_seen s2 (alloc_cell (plan_at z) e) ≡ alloc_part blocks)
     refused_at s1 s2 place is stamped =
         let done = subst (λ (y : PassState). HasStampedWith y s2) (like s1 reply is) (stamped_with s1 place s2 stamped) in (
@@ -201,15 +203,18 @@ module _ (z : Site) (e : ℕ) (s : PassState) (blocks : List Live) (machine : Is
       len_same : len' ≡ block.len
       len_same = len_is ∙ ap (λ (o : Option Live). unwrap_or (option_map (λ (b : Live). b.len) o) 0) block_is
 
+      -- the block ends at sub-page 16384 of the machine at the latest
       pub small_run : first + block.start + len' ≤ 16384
       small_run = let within = subs_within s blocks good caller can.left holds at block there_is mine_here in let most = few_pages (plan_of s) good in let same = start_same in let long = len_same in omega arith
 
+      -- the free or share may be stamped once the pass has the turns of the block's pages
       pub can_change_at : (s1 : PassState) (p : ℕ) (mark : Mark) → IsDrafted s1 Done → p ≡ (first + block.start) / 4 → mark ≡ mark_of change → CanStampWith s1 run_made mark p
       can_change_at s1 p mark is p_is mark_is =
           subst (λ (y : PassState × (Run × (Mark × ℕ))). CanStampWith y.0 y.1.0 y.1.1.0 y.1.1.1)
           (sym (λ i. (like s1 Done is i, (record { start = start_same i; len = len_same i }, (mark_is i, (p_is ∙ ap (λ m. m / 4) start_same) i)))))
           (can_change s blocks good caller can.left holds at block there_is mine_here change)
 
+      -- once it is stamped, the call was done, and the enclave's blocks are changed by it
       pub changed_at : (s1 s2 : PassState) (blocks' : List Live) → IsDrafted s1 Done → HasStampedWith s1 s2 → blocks' ≡ changed change e at blocks
           → HasCalled s (call_of change at) Done s2 × (part_seen s2 (alloc_cell (plan_at z) e) ≡ alloc_part blocks')
       changed_at s1 s2 blocks' is stamped blocks_are =

@@ -5,7 +5,7 @@ use Rattle.eleos_base.specs.declared.memory.Reply.TheVariants.{BadSize}
 use Rattle.eleos_base.specs.Lists.{first_from}
 use Rattle.eleos_base.specs.Plain.{alloc_answer, is_free_run, lowest_run, subs_for}
 use Rattle.eleos_base.specs.Plans.{enclave_of, sub_bytes}
-use Rattle.eleos_core.specs.Places.{subs}
+use Rattle.eleos_base.specs.Places.{subs}
 use Rattle.eleos_core.specs.State.{live}
 use Rattle.eleos_core.proofs.FreeRuns.{by_test, le_of, lt_of}
 use Rattle.eleos_alloc.specs.Laws.{AllocsComplete}
@@ -25,6 +25,7 @@ lowest_run-finds : (blocks : List Live) (all len start : ℕ) → start < all �
 unfolding lowest_run
 lowest_run-finds blocks all len start within free = first_from-finds (is_free_run blocks all len) all 0 start (omega arith) (omega (arith, within)) free
 
+-- an alloc of a good size for which there is a free run gets a block
 pub allocs_complete : AllocsComplete
 allocs_complete k x past who n start blocks reply step good run =
     let e : ℕ = enclave_of k who in

@@ -12,6 +12,7 @@ use Rattle.eleos_core.proofs.MarkedPages.{IsPagePart}
 in_both : (start len first s : ℕ) → first ≤ s → s < first + 4 → is_in_run (max start first) (min (start + len) (first + 4) - max start first) s ≡ is_in_run start len s
 in_both start len first s low high = grind (arith, nat_tests)
 
+-- to mark the sub-pages of a run in a page is to mark those of the piece of the run that lies in this page
 pub page_clipped : (mark : Mark) (start len p low count : ℕ) (q : Part) → IsPagePart q → low ≡ max start (p * 4) → count ≡ min (start + len) (p * 4 + 4) - low
     → page_marked mark low count p q ≡ page_marked mark start len p q
 page_clipped mark start len p low count no_part holds low_is count_is = absurd holds

@@ -13,13 +13,14 @@ use Rattle.eleos_core.specs.declared.event.Event.TheVariants.{Op}
 use Rattle.eleos_core.specs.Applying.{stamp_of}
 use Rattle.eleos_core.specs.Legal.{CoreStep}
 use Rattle.eleos_core.specs.Parts.{alloc_cell, live_in}
-use Rattle.eleos_core.specs.Places.{subs}
+use Rattle.eleos_base.specs.Places.{subs}
 use Rattle.eleos_core.specs.State.{entry}
 use Rattle.eleos_plot.specs.Terms.{core_terms}
 use Rattle.eleos_turn.specs.Hands.{Goes}
 use Rattle.eleos_turn.specs.Numbers.{less_one}
 use Rattle.eleos_turn.proofs.Clients.{goes_given, goes_links, goes_trans}
 use Rattle.eleos_machine.specs.Machines.{Site, plan_at, seals_at}
+use Rattle.eleos_machine.specs.Notes.{after_entry}
 use Rattle.eleos_machine.specs.Passes.{PassState, gave, part_seen, plan_of}
 use Rattle.eleos_machine.specs.Stamping.{HasStamped, MayStamp}
 use Rattle.eleos_alloc.specs.Calls.{CanCall, HasCalled}
@@ -45,11 +46,13 @@ module _ (z : Site) (s : PassState) (can : CanCall z s) where
           };
         }))
 
+  -- once it is stamped, the call was refused for its size
   pub said_bad : (n : ℕ) (s1 s2 : PassState) (place : ℕ) → s1 ≡ drafted s (calls.Alloc n) BadSize 0 → HasStamped s1 place s2 → HasCalled s (calls.Alloc n) BadSize s2
   said_bad n s1 s2 place is stamped = called s (calls.Alloc n) BadSize 0 s2 (subst (λ (y : PassState). HasStampedWith y s2) is (stamped_with s1 place s2 stamped))
 
   -- the others take the turn of the blocks
   module _ (e : ℕ) (blocks : List Live) (s1 : PassState) (taken : HasTaken e s blocks s1) where
+    -- with the turn the pass may make its call, by the plan and the enclave that the code has
     pub can_call_with : (k : Plan) (who : ℕ) → k ≡ plan_at z → who ≡ s.hand.number → e ≡ enclave_of k who → CanCallWith z e blocks s1
     can_call_with k who k_is who_is e_is = record {
       own = taken.goes.home ∙ can.own;
@@ -61,9 +64,11 @@ module _ (z : Site) (s : PassState) (can : CanCall z s) where
 
     -- the call was made, and the turn is given back
     module _ (op : Calls) (reply : Reply) (s2 : PassState) (made : HasCalled s1 op reply s2) where
+      -- the pass is still one of this machine
       pub own_then : s2.hand.home ≡ z
       own_then = made.one.home ∙ (taken.goes.home ∙ can.own)
 
+      -- the turn of the enclave's blocks is held still
       pub held_then : (cell : ℕ) → cell ≡ e → Has cell s2.hand.turns
       held_then cell is = subst (Has cell) (sym (made.turns ∙ taken.holds.turns)) (inl is)
 
@@ -82,9 +87,10 @@ module _ (z : Site) (s : PassState) (can : CanCall z s) where
         pins = made.pins ∙ taken.pins;
         links = λ c. made.links c ∙ goes_links core_terms s.hand s1.hand [] taken.goes tt c;
         refused = made.refused ∙ taken.refused;
-        rest = ap (λ (y : PassState). gave y e) made.rest ∙ ap (λ (y : PassState). record y { hand = (gave s2 e).hand; draft = s2.draft }) taken.rest;
+        rest = ap (λ (y : PassState). gave y e) made.rest ∙ ap (λ (y : PassState). record y { hand = (gave s2 e).hand; draft = s2.draft; sweep = after_entry (Op op) y.sweep }) taken.rest;
       }
 
+      -- with the turn given back, the whole is the call with this reply
       pub done_then : (cell : ℕ) (s3 : PassState) → cell ≡ e → s3 ≡ gave s2 cell → HasCalled s op reply s3
       done_then cell s3 cell_is is = subst (HasCalled s op reply) (sym (is ∙ ap (gave s2) cell_is)) done
 

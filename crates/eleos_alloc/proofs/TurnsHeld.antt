@@ -13,7 +13,7 @@ use Rattle.eleos_core.specs.declared.event.Event.TheVariants.{Op}
 use Rattle.eleos_core.specs.Allots.{marked, page_marked}
 use Rattle.eleos_core.specs.Cells.{frame_of_page, sub_parts}
 use Rattle.eleos_core.specs.Parts.{Cell as Numbered, MayStep, Part, Stamp, SubPart, alloc_cell, blank_sub, cell_of, foot, page_after, page_cell, page_part, part_after, places_in, sub_after, the_page}
-use Rattle.eleos_core.specs.Places.{per_page}
+use Rattle.eleos_base.specs.Places.{per_page}
 use Rattle.eleos_core.specs.Seals.{Seals}
 use Rattle.eleos_core.specs.State.{frame_by}
 use Rattle.eleos_core.proofs.Allotting.{Marks}
@@ -31,7 +31,7 @@ use Rattle.eleos_turn.specs.Numbers.{less_one}
 use Rattle.eleos_turn.proofs.Clients.{goes_given, goes_trans}
 use Rattle.eleos_machine.specs.Machines.{Site, all_cells, plan_at}
 use Rattle.eleos_machine.specs.Passes.{PassState, TookTurn, gave, part_seen, plan_of, seals_of}
-use Rattle.eleos_machine.specs.Stamping.{HasStamped, MayStamp}
+use Rattle.eleos_machine.specs.Stamping.{HasStamped, IsOwnSweep, MayStamp}
 use Rattle.eleos_alloc.specs.declared.runs.Run.{Run}
 use Rattle.eleos_alloc.specs.Runs.{end_of}
 use Rattle.eleos_alloc.specs.Stamping.{CanStampWith, HasStampedWith, IsAhead, IsToTake}
@@ -44,6 +44,7 @@ may_call s op own left event turns legal = record {
   left = left;
   turns = turns;
   legal = legal;
+  sweep = subst (IsOwnSweep s) (sym event) tt;
   bare = λ c has. absurd (subst (λ (e : Event). Has c (bare_of (plan_of s) e)) event has);
   covered = λ c is. absurd (let wrong : neither ≡ adds c = subst (λ (e : Event). tie_of (plan_of s) e s.draft.entry.reply ≡ adds c) event is in cc);
   there = λ c is. absurd (let wrong : neither ≡ takes c = subst (λ (e : Event). tie_of (plan_of s) e s.draft.entry.reply ≡ takes c) event is in cc);
@@ -100,6 +101,7 @@ module _ (s : PassState) (run : Run) (mark : Mark) (page : ℕ) (can : CanStampW
     below : page < end_of run
     below = let within = can.within in omega arith
 
+    -- the turn of this page is the next to take
     pub next : IsToTake s run page
     next = can.ahead page (omega arith) below
 
@@ -208,5 +210,6 @@ module _ (s : PassState) (run : Run) (mark : Mark) (page : ℕ) (can : CanStampW
       back = λ n value s' s2 s3 took made. given_back n value s' took s2 made s3;
     }
 
+    -- the turn of the page's cell allows this also by the cell's number in the code
     pub at_cell : (z : Site) (plan : Plan) (cell : ℕ) → s.hand.home ≡ z → plan ≡ plan_at z → cell ≡ page_cell plan page → AtCell cell
     at_cell z plan cell own plan_is is = subst AtCell (sym (is ∙ ap (λ (k' : Plan). page_cell k' page) (plan_is ∙ ap (λ (y : Site). plan_at y) (sym own)))) at_page

@@ -1,9 +1,7 @@
 -- What a call on blocks needs of a pass, and what it does to it.
-use Rattle.std.specs.Prelude.{◌≡◌, ℕ, ◌<◌, [], ◌∷◌, length, Result, Ok, Err}
-use Rattle.eleos_base.specs.declared.memory.Addr.{Addr}
+use Rattle.std.specs.Prelude.{◌≡◌, ℕ, ◌<◌, [], ◌∷◌, length}
 use Rattle.eleos_base.specs.declared.memory.Op.{Op as Calls}
 use Rattle.eleos_base.specs.declared.memory.Reply.{Reply}
-use Rattle.eleos_base.specs.declared.memory.Reply.TheVariants as replies
 use Rattle.eleos_base.specs.Plans.{IsCaller}
 use Rattle.eleos_core.specs.declared.event.Event.TheVariants.{Op}
 use Rattle.eleos_core.specs.Applying.{stamp_of}
@@ -12,11 +10,8 @@ use Rattle.eleos_core.specs.State.{History, entry}
 use Rattle.eleos_plot.specs.Terms.{core_terms}
 use Rattle.eleos_turn.specs.Hands.{Goes, links_on}
 use Rattle.eleos_machine.specs.Machines.{Site, plan_at}
+use Rattle.eleos_machine.specs.Notes.{after_entry}
 use Rattle.eleos_machine.specs.Passes.{PassState, plan_of, seals_of, seen}
-use Rattle.eleos_base.specs.declared.refusals.AllocRefused.{AllocRefused}
-use Rattle.eleos_base.specs.declared.refusals.AllocRefused.TheVariants.{BadSize, NoSpace}
-use Rattle.eleos_base.specs.declared.refusals.BlockRefused.{BlockRefused}
-use Rattle.eleos_base.specs.declared.refusals.BlockRefused.TheVariants.{NotABlock, NotYours}
 
 -- the pass is a caller's of this machine, holds no turn, and has a stamp left
 pub record CanCall (z : Site) (s : PassState) : Type 0 where
@@ -39,19 +34,5 @@ pub record HasCalled (s : PassState) (op : Calls) (reply : Reply) (s' : PassStat
   pub pins : s'.hand.pins ≡ s.hand.pins
   pub links : (c : ℕ) → links_on core_terms s'.hand c ≡ links_on core_terms s.hand c
   pub refused : s'.hand.refused ≡ s.hand.refused
-  -- all but the hand and the draft stays
-  pub rest : s' ≡ record s { hand = s'.hand; draft = s'.draft }
-
--- an answer as the reply of its entry
-abbrev pub alloc_reply : Result Addr AllocRefused → Reply
-alloc_reply (Ok at) = replies.Got at
-alloc_reply (Err BadSize) = replies.BadSize
-alloc_reply (Err NoSpace) = replies.NoSpace
-
-abbrev pub refusal_reply : BlockRefused → Reply
-refusal_reply NotABlock = replies.NotABlock
-refusal_reply (NotYours owner) = replies.NotYours owner
-
-abbrev pub block_reply : {A : Type 0} → Result A BlockRefused → Reply
-block_reply (Ok done) = replies.Done
-block_reply (Err refused) = refusal_reply refused
+  -- all but the hand and the draft stays, and the notes are older by an entry
+  pub rest : s' ≡ record s { hand = s'.hand; draft = s'.draft; sweep = after_entry (Op op) s.sweep }

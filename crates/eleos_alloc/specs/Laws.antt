@@ -9,7 +9,7 @@ use Rattle.eleos_base.specs.Plain.{is_free_run, is_good_size, subs_for}
 use Rattle.eleos_base.specs.Plans.{enclave_of, sub_bytes}
 use Rattle.eleos_core.specs.declared.event.Event.TheVariants.{Op}
 use Rattle.eleos_core.specs.Legal.{CoreStep}
-use Rattle.eleos_core.specs.Places.{subs}
+use Rattle.eleos_base.specs.Places.{subs}
 use Rattle.eleos_core.specs.Seals.{Seals}
 use Rattle.eleos_core.specs.State.{History, entry, live}
 

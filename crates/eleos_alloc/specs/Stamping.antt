@@ -10,15 +10,16 @@ use Rattle.eleos_core.specs.declared.event.Event.TheVariants.{Op}
 use Rattle.eleos_core.specs.Legal.{CoreStep}
 use Rattle.eleos_core.specs.Order.{AreInOrder}
 use Rattle.eleos_core.specs.Parts.{MayStep, Part, alloc_cell, alloc_part, after_at, foot, page_cell}
-use Rattle.eleos_core.specs.Places.{all_pages, subs}
+use Rattle.eleos_base.specs.Places.{all_pages, subs}
 use Rattle.eleos_core.specs.State.{History}
 use Rattle.eleos_core.proofs.Allotting.{Marks}
 use Rattle.eleos_plot.specs.Terms.{core_terms}
 use Rattle.eleos_turn.specs.Hands.{Goes}
 use Rattle.eleos_machine.specs.Machines.{Site, plan_at}
+use Rattle.eleos_machine.specs.Notes.{after_entry}
 use Rattle.eleos_machine.specs.Passes.{PassState, part_seen, plan_of, seals_of, seen}
 use Rattle.eleos_alloc.specs.declared.runs.Run.{Run}
-use Rattle.eleos_alloc.specs.Runs.{IsRun, Touches, end_of}
+use Rattle.eleos_alloc.specs.Runs.{IsGoodRun, Touches, end_of}
 
 -- the pass has the turn of the cell of the enclave's live blocks and no other, and these are the blocks
 pub record HoldsBlocks (e : ℕ) (s : PassState) (blocks : List Live) : Type 0 where
@@ -64,7 +65,7 @@ pub record CanStampWith (s : PassState) (run : Run) (mark : Mark) (page : ℕ) :
   pub left : 0 < s.hand.left
   pub op : Calls
   pub event : s.draft.entry.event ≡ Op op
-  pub run_is : IsRun run
+  pub run_is : IsGoodRun run
   pub e : ℕ
   pub home : Has (alloc_cell (plan_of s) e) s.hand.turns
   pub legal : (b : ℕ → Part) → b (alloc_cell (plan_of s) e) ≡ part_seen s (alloc_cell (plan_of s) e) → MayStep (plan_of s) (seals_of s) s.draft b
@@ -85,6 +86,6 @@ pub record HasStampedWith (s s' : PassState) : Type 0 where
   pub turns : s'.hand.turns ≡ s.hand.turns
   pub pins : s'.hand.pins ≡ s.hand.pins
   pub refused : s'.hand.refused ≡ s.hand.refused
-  -- all but the hand stays
-  pub rest : s' ≡ record s { hand = s'.hand }
+  -- all but the hand stays, and the notes are older by an entry
+  pub rest : s' ≡ record s { hand = s'.hand; sweep = after_entry s.draft.entry.event s.sweep }
   pub touched : (c : ℕ) → Has c s.hand.turns → Has c (foot (plan_of s) s.draft) → part_seen s' c ≡ after_at (plan_of s) (seals_of s) s.draft (part_seen s) c

@@ -10,7 +10,8 @@ ghost use Rattle.eleos_core.specs.Parts.{alloc_cell, alloc_part};
 ghost use Rattle.eleos_machine.specs.Machines.{plan_at};
 ghost use Rattle.eleos_machine.specs.Passes.{part_seen};
 ghost use Rattle.eleos_plot.specs.Refs.{reply_bytes, reply_of};
-ghost use Rattle.eleos_alloc.specs.Calls.{CanCall, HasCalled, alloc_reply, block_reply};
+ghost use Rattle.eleos_alloc.specs.Calls.{CanCall, HasCalled};
+ghost use Rattle.eleos_base.specs.Answers.{block_reply, alloc_reply};
 ghost use Rattle.eleos_alloc.specs.Changes.{call_of};
 ghost use Rattle.eleos_alloc.specs.Stamping.{CanCallWith};
 
@@ -18,8 +19,8 @@ use crate::changes::Change;
 use crate::holding::{stamp_with_pages, take_blocks};
 use crate::refusals::{judge, reply_to};
 use crate::runs::Run;
-use eleos_base::{Addr, AllocRefused, BlockRefused, Live, SUB_BYTES, Sealer};
-use eleos_core::{MOST_BYTES, Mark, enclave_of, first_sub, subs_of};
+use eleos_base::{Addr, AllocRefused, BlockRefused, Live, MOST_BLOCK_BYTES, SUB_BYTES, Sealer};
+use eleos_core::{Mark, enclave_of, first_sub, subs_of};
 use eleos_machine::{Machine, Pass};
 use eleos_plot::{BlockList, Cell, EventRef, OpRef, ReplyRef};
 use std::sync::Wait;
@@ -36,7 +37,7 @@ pub fn alloc<S: Sealer, R: Wait>(
     ensures one { HasCalled pass.old (ops.Alloc bytes) (alloc_reply result) pass.new }
     ensures sized { result ≡ Err refusals.BadSize ↔ is_good_size bytes ≡ false }
 {
-    if bytes == 0 || bytes > MOST_BYTES {
+    if bytes == 0 || bytes > MOST_BLOCK_BYTES {
         pass.set(EventRef::Op(OpRef::Alloc { bytes }), ReplyRef::BadSize);
         m.stamp(pass);
         return Err(AllocRefused::BadSize);
@@ -86,9 +87,10 @@ fn alloc_in<S: Sealer, R: Wait>(
 ) -> Result<Addr, AllocRefused>
     requires can { CanCallWith m.now enclave blocks.old pass.old }
     requires some { 1 ≤ bytes }
-    requires most { bytes ≤ MOST_BYTES }
+    requires most { bytes ≤ MOST_BLOCK_BYTES }
     ensures one { HasCalled pass.old (ops.Alloc bytes) (alloc_reply result) pass.new }
-    ensures blocks { part_seen pass.new (alloc_cell (plan_at m.now) enclave) ≡ alloc_part blocks.new }
+    ensures blocks { part_seen pass.new (alloc_cell (plan_at m.now) enclave)
+        ≡ alloc_part blocks.new }
     ensures sized { result ≡ Err refusals.BadSize → ⊥ }
 {
     let plan = m.plan();
@@ -149,7 +151,8 @@ fn change_in<S: Sealer, R: Wait>(
 ) -> Result<(), BlockRefused>
     requires can { CanCallWith m.now enclave blocks.old pass.old }
     ensures one { HasCalled pass.old (call_of change at) (block_reply result) pass.new }
-    ensures blocks { part_seen pass.new (alloc_cell (plan_at m.now) enclave) ≡ alloc_part blocks.new }
+    ensures blocks { part_seen pass.new (alloc_cell (plan_at m.now) enclave)
+        ≡ alloc_part blocks.new }
 {
     let plan = m.plan();
     let found = blocks.block_at(enclave, at);

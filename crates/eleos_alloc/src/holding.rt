@@ -1,17 +1,14 @@
 // The turns of a call: first that of the enclave's live blocks, then those of the block's pages, by
 // rising number.
 ghost use Rattle.std.specs.Prelude.{◌≡◌, ◌+◌, ◌<◌, ◌≤◌, [], length};
-ghost use Rattle.eleos_base.specs.Plans.{IsGood};
-ghost use Rattle.eleos_core.specs.Parts.{page_cell};
-ghost use Rattle.eleos_core.specs.Places.{all_pages};
 ghost use Rattle.eleos_machine.specs.Machines.{plan_at};
 ghost use Rattle.eleos_alloc.specs.Stamping.{CanStampWith, HasStampedWith, HasTaken};
 
 use crate::pages::marked_cell;
 use crate::runs::Run;
-use eleos_base::{Plan, Sealer};
+use eleos_base::Sealer;
 use eleos_core::Mark;
-use eleos_machine::{Machine, Pass};
+use eleos_machine::{Machine, Pass, page_cell};
 use eleos_plot::{BlockList, Cell};
 use eleos_turn::Taken;
 use std::sync::Wait;
@@ -58,14 +55,4 @@ pub(crate) fn stamp_with_pages<S: Sealer, R: Wait>(
     let Taken { word: _, value } = m.take(rt, pass, cell, false);
     stamp_with_pages(rt, m, pass, page + 1, run, mark);
     m.give(pass, cell, marked_cell(value, page, run, mark));
-}
-
-/// The number of a page's cell.
-fn page_cell(plan: &Plan, page: u32) -> u32
-    requires good { IsGood plan.now }
-    requires page { page < all_pages plan.now }
-    ensures { result ≡ page_cell plan.now page }
-{
-    let enclaves = plan.enclaves.len() as u32;
-    enclaves + enclaves + 1 + page
 }

@@ -3,14 +3,14 @@ ghost use Rattle.std.specs.Prelude.{◌≡◌, [], IfOk, Some, option_map};
 ghost use Rattle.std.specs.Result.{result_err};
 ghost use Rattle.eleos_base.specs.Plain.{block_refusal};
 ghost use Rattle.eleos_plot.specs.Refs.{reply_bytes, reply_of};
-ghost use Rattle.eleos_alloc.specs.Calls.{refusal_reply};
+ghost use Rattle.eleos_base.specs.Answers.{block_refusal_reply};
 
 use eleos_base::{BlockRefused, Live};
 use eleos_plot::ReplyRef;
 
 /// The refusal as a reply.
 pub(crate) fn reply_to<'a>(refused: BlockRefused) -> ReplyRef<'a>
-    ensures reply { reply_of result ≡ refusal_reply refused }
+    ensures reply { reply_of result ≡ block_refusal_reply refused }
     ensures bytes { reply_bytes result ≡ [] }
 {
     match refused {
@@ -22,7 +22,7 @@ pub(crate) fn reply_to<'a>(refused: BlockRefused) -> ReplyRef<'a>
 /// The block that was found, where the caller may free and share it.
 pub(crate) fn judge(found: Option<Live>, who: u32) -> Result<Live, BlockRefused>
     ensures found { IfOk result (λ block. found ≡ Some block) }
-    ensures refused { option_map refusal_reply (result_err result) ≡ block_refusal who found }
+    ensures refused { option_map block_refusal_reply (result_err result) ≡ block_refusal who found }
 {
     match found {
         None => Err(BlockRefused::NotABlock),

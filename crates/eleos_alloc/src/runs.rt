@@ -1,6 +1,6 @@
 // Runs of the machine's sub-pages, and the pages that they lie in.
 ghost use Rattle.std.specs.Prelude.{◌≡◌, ◌+◌, ◌-◌, ◌/◌};
-ghost use Rattle.eleos_alloc.specs.Runs.{IsRun};
+ghost use Rattle.eleos_alloc.specs.Runs.{IsGoodRun};
 
 use eleos_base::SUBS_PER_PAGE;
 
@@ -21,7 +21,7 @@ impl Run {
 
     /// The page behind that of its last sub-page.
     pub fn end_page(self) -> u32
-        requires run { IsRun self }
+        requires run { IsGoodRun self }
         ensures { result ≡ (self.start + self.len - 1) / 4 + 1 }
     {
         (self.start + self.len - 1) / SUBS_PER_PAGE + 1

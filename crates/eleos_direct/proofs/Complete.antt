@@ -10,7 +10,7 @@ use Rattle.eleos_base.specs.Plans.{sub_bytes}
 use Rattle.eleos_core.specs.declared.event.Entry.{Entry}
 use Rattle.eleos_core.specs.declared.event.Event.TheVariants.{Op}
 use Rattle.eleos_core.specs.Legal.{ByBlocks, IsPlainly, Judged, access_refusal, failed, failed_last, is_worn, judged, passed, passes, unfit, verdict}
-use Rattle.eleos_core.specs.Places.{sub_of}
+use Rattle.eleos_base.specs.Places.{sub_of}
 use Rattle.eleos_core.specs.Seals.{Seals}
 use Rattle.eleos_core.specs.State.{History, entry, found, last, places}
 use Rattle.eleos_direct.specs.Laws.{AccessesComplete, AreLast}
@@ -38,6 +38,7 @@ by_wear : (b : Bool) (e : Entry) (s : ℕ) (j : Judged) → ((t : ℕ) → j ≡
 by_wear true e s j none h = inr h.reply_is
 by_wear false e s j none h = inl (by_last j Done e.reply none h)
 
+-- an access that plain memory does not refuse, and for which the blocks came that were last sealed, is served
 pub accesses_complete : AccessesComplete
 accesses_complete k x past who (Read at n) blocks reply step allowed are =
     let text : List ℕ = plain.bytes_of (sub_bytes k at.enclave) at.enclave at.at n (found k x (entry who (Op (Read at n)) blocks reply) past (sub_of k at)) in (

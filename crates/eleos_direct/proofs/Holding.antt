@@ -12,7 +12,7 @@ use Rattle.eleos_core.specs.declared.event.Event.TheVariants.{Op}
 use Rattle.eleos_core.specs.Applying.{puts_of, stamp_of}
 use Rattle.eleos_core.specs.Legal.{CoreStep}
 use Rattle.eleos_core.specs.Parts.{Stamp, frame_in, page_cell, part_at, places_in, subs_in}
-use Rattle.eleos_core.specs.Places.{first_sub, is_sub_of, per_page, sub_of}
+use Rattle.eleos_base.specs.Places.{first_sub, is_sub_of, per_page, sub_of}
 use Rattle.eleos_core.specs.Seals.{Seals}
 use Rattle.eleos_core.specs.State.{History, entry}
 use Rattle.eleos_core.proofs.AccessParts.{puts_from-none}
@@ -27,26 +27,26 @@ use Rattle.eleos_plot.specs.declared.plot.Ground.{Ground}
 use Rattle.eleos_plot.specs.Terms.{core_terms}
 use Rattle.eleos_turn.specs.Hands.{Goes, HandState, refused_at}
 use Rattle.eleos_base.specs.Words.{IsBusy}
+use Rattle.eleos_turn.specs.Numbers.{less_one}
 use Rattle.eleos_turn.proofs.Clients.{goes_links, goes_trans}
 use Rattle.eleos_machine.specs.Machines.{Site, plan_at, seals_at}
 use Rattle.eleos_machine.specs.Passes.{PassState, TookTurn, plan_of, seals_of}
-use Rattle.eleos_pages.specs.Accesses.{page_at}
+use Rattle.eleos_core.specs.Accesses.{page_at}
 use Rattle.eleos_pages.specs.Crossed.{Crosses, HasBegun, HasCrossed, at_place, came, with_crossings, with_puts}
 use Rattle.eleos_pages.proofs.CrossedBlocks.{came-idle}
 use Rattle.eleos_direct.specs.Accesses.{FoundBusy, HasAccessed}
-use Rattle.eleos_direct.specs.Entered.{Enters}
-use Rattle.eleos_direct.specs.Held.{AccessesHeld, IsPageOf, access_stamp}
-
--- a store that takes no block stays
-same_store : (o o' : Option Store) → o ≡ o' → o ≡ option_map (λ s. with_puts s []) o'
-same_store o None is = is
-same_store o (Some s) is = is
+use Rattle.eleos_pages.specs.Entered.{Enters}
+use Rattle.eleos_pages.proofs.Beginning.{entered_after, none_since, since_begin}
+use Rattle.eleos_pages.proofs.Ending.{only_turn}
+use Rattle.eleos_pages.specs.Held.{IsPageOf, access_stamp}
+use Rattle.eleos_direct.specs.Held.{AccessesHeld}
 
 -- a read seals nothing, and nor does a refused write
 pub read_puts : (k : Plan) (x : Seals) (past : History) (who : ℕ) (at : Addr) (n : ℕ) (blocks : List (List ℕ)) (reply : Reply) → CoreStep k x past (entry who (Op (Read at n)) blocks reply)
     → puts_of k x (entry who (Op (Read at n)) blocks reply) past ≡ []
 read_puts k x past who at n blocks reply step = sym (puts_are k x past who (Op (Read at n)) blocks reply 0 step)
 
+-- a write that is not accepted seals nothing
 pub refused_puts : (k : Plan) (x : Seals) (past : History) (who : ℕ) (at : Addr) (new : List ℕ) (blocks : List (List ℕ)) (reply : Reply) → is_accepted reply ≡ false → CoreStep k x past (entry who (Op (Write at new)) blocks reply)
     → puts_of k x (entry who (Op (Write at new)) blocks reply) past ≡ []
 refused_puts k x past who at new blocks reply refused step =
@@ -57,65 +57,29 @@ refused_puts k x past who at new blocks reply refused step =
     ∙ ap (λ v. v && not (is_some (frame_in q))) (and_false (is_sub_of k (enclave_of k who) s)))
 
 module _ {P : Type 0} (port : Ghosts P) (host : store.Ghosts P) where
-  -- what crossed after the tap had begun is all that crossed
-  pub since_begin : (before new tap : TapState P) (given taken : List (ℕ × List ℕ)) → HasBegun port host before tap → Crosses port host tap new given taken → HasCrossed port host before new given taken
-  since_begin before new tap given taken begun crossed = record {
-    gave = crossed.gave;
-    took = crossed.took;
-    all_given = crossed.all_given ∙ ap (λ told. with_crossings told given) begun.none_given;
-    all_taken = crossed.all_taken ∙ ap (λ told. with_crossings told taken) begun.none_taken;
-    store = crossed.store ∙ ap (option_map (λ s. with_puts s taken)) begun.same_store;
-    one_begin = crossed.no_begin ∙ begun.one_begin;
-  }
-
-  -- nothing crossed after it
-  pub none_since : (before tap : TapState P) (given taken : List (ℕ × List ℕ)) → given ≡ [] → taken ≡ [] → HasBegun port host before tap → HasCrossed port host before tap given taken
-  none_since before tap given taken no_given no_taken begun =
-      subst (λ gs. HasCrossed port host before tap gs taken) (sym no_given) (subst (HasCrossed port host before tap []) (sym no_taken) (record {
-        gave = tt;
-        took = tt;
-        all_given = begun.none_given;
-        all_taken = begun.none_taken;
-        store = same_store (host.store tap.port) (host.store before.port) begun.same_store;
-        one_begin = begun.one_begin;
-      }))
-
   -- an access that is out of range
   pub outside : (s s' : PassState) (before tap : TapState P) (at : Addr) (op : Calls) → HasBegun port host before tap
       → ((past : History) (blocks : List (List ℕ)) → CoreStep (plan_of s) (seals_of s) past (entry s.hand.number (Op op) blocks BadRange) → puts_of (plan_of s) (seals_of s) (entry s.hand.number (Op op) blocks BadRange) past ≡ [])
-      → Enters s (access_stamp s op [] BadRange) s' → HasAccessed port host s before at op BadRange s' tap
+      → Enters s (access_stamp s op [] BadRange) [] s' → HasAccessed port host s before at op BadRange s' tap
   outside s s' before tap at op begun none entered =
       let no_block : came tap ≡ [] = came-idle tap begun.ready.idle in
-      let e : Enters s (access_stamp s op (came tap) BadRange) s' = subst (λ bs. Enters s (access_stamp s op bs BadRange) s') (sym no_block) entered in record {
+      let e : Enters s (access_stamp s op (came tap) BadRange) [] s' = subst (λ bs. Enters s (access_stamp s op bs BadRange) [] s') (sym no_block) entered in record {
         entered = e;
-        crossed = none_since before tap _ _ (ap (at_place (sub_of (plan_of s) at)) no_block) (none e.past (came tap) e.legal) begun;
+        crossed = none_since port host before tap _ _ (ap (at_place (sub_of (plan_of s) at)) no_block) (none e.past (came tap) e.legal) begun;
         spoiled = ap (option_map (Rattle.eleos_host.specs.Taps.block_of tap)) begun.ready.no_failure;
       }
 
-  -- the entry of a pass after a take is one of the pass before it
-  abbrev entered_after : (s mid s' : PassState) (d d' : Stamp) → Goes core_terms s.hand mid.hand [] → mid.hand.pins ≡ s.hand.pins → mid.hand.refused ≡ s.hand.refused → mid ≡ record s { hand = mid.hand } → d ≡ d' → Enters mid d s' → Enters s d' s'
-  entered_after s mid s' d d' goes pins refused rest same e = record {
-    past = e.past;
-    goes = subst (λ (y : Stamp). Goes core_terms s.hand s'.hand ((length e.past, y) ∷ [])) same (goes_trans core_terms s.hand mid.hand s'.hand [] ((length e.past, d) ∷ []) goes e.goes);
-    sees = e.sees ∙ ap (λ (y : Stamp). y.entry ∷ e.past) same;
-    legal = subst (λ (y : Stamp). CoreStep (plan_of s) (seals_of s) e.past y.entry) same (subst (λ (z : Site). CoreStep (plan_at z) (seals_at z) e.past d.entry) goes.home e.legal);
-    no_turn = e.no_turn;
-    pins = e.pins ∙ pins;
-    links = λ c. e.links c ∙ goes_links core_terms s.hand mid.hand [] goes tt c;
-    refused = e.refused ∙ refused;
-    rest = e.rest ∙ ap (λ (y : PassState). record y { hand = s'.hand; draft = s'.draft }) rest;
-  }
-
   -- an access on the page whose turn was taken
   pub accessed_after : (s mid s' : PassState) (before tap tap' : TapState P) (at : Addr) (op : Calls) (reply : Reply) (cell word : ℕ) (value : Cell)
-      → TookTurn cell word s value mid → HasBegun port host before tap → AccessesHeld port host mid tap at op reply s' tap' → HasAccessed port host s before at op reply s' tap'
-  accessed_after s mid s' before tap tap' at op reply cell word value took begun a =
+      → s.hand.turns ≡ [] → TookTurn cell word s value mid → HasBegun port host before tap → AccessesHeld port host mid tap at cell op reply s' tap' → HasAccessed port host s before at op reply s' tap'
+  accessed_after s mid s' before tap tap' at op reply cell word value idle took begun a =
       let home : mid.hand.home ≡ s.hand.home = took.goes.home in
       let number : mid.hand.number ≡ s.hand.number = took.goes.number in record {
-        entered = entered_after s mid s' (access_stamp mid op (came tap') reply) (access_stamp s op (came tap') reply) took.goes
+        entered = entered_after s mid s' (access_stamp mid op (came tap') reply) (access_stamp s op (came tap') reply) (less_one cell mid.hand.turns) [] took.goes
             (ap (λ (y : HandState Stamp _ Ground). y.pins) took.took.now) (ap (λ (y : HandState Stamp _ Ground). y.refused) took.took.now) took.rest
-            (ap (λ who. stamp_of who (Op op) (came tap') reply 0) number) a.entered;
-        crossed = since_begin before tap' tap _ _ begun
+            (ap (λ who. stamp_of who (Op op) (came tap') reply 0) number)
+            (only_turn cell mid.hand.turns (ap (λ (y : HandState Stamp _ Ground). y.turns) took.took.now ∙ ap (λ turns. cell ∷ turns) idle)) a.entered;
+        crossed = since_begin port host before tap' tap _ _ begun
             (subst (λ (z : Site). Crosses port host tap tap' (at_place (sub_of (plan_at z) at) (came tap')) (puts_of (plan_at z) (seals_at z) (entry s.hand.number (Op op) (came tap') reply) a.entered.past)) home
             (subst (λ who. Crosses port host tap tap' (at_place (sub_of (plan_of mid) at) (came tap')) (puts_of (plan_of mid) (seals_of mid) (entry who (Op op) (came tap') reply) a.entered.past)) number a.crossed));
         spoiled = a.spoiled;
@@ -129,5 +93,5 @@ module _ {P : Type 0} (port : Ghosts P) (host : store.Ghosts P) where
         in_range = p.range;
         busy = busy;
         refused = refused ∙ ap (λ (m : ℕ). record s { hand = refused_at s.hand m word }) p.cell_is;
-        crossed = none_since before tap [] [] refl refl begun;
+        crossed = none_since port host before tap [] [] refl refl begun;
       }

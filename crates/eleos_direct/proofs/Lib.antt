@@ -1,5 +1,3 @@
-pub mod PageCells
-pub mod Ending
 pub mod Holding
 pub mod OnPages
 pub mod Complete

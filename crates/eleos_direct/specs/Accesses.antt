@@ -5,27 +5,27 @@ use Rattle.eleos_base.specs.declared.memory.Op.{Op as Calls}
 use Rattle.eleos_base.specs.declared.memory.Reply.{Reply}
 use Rattle.eleos_core.specs.Applying.{puts_of}
 use Rattle.eleos_core.specs.Parts.{page_cell}
-use Rattle.eleos_core.specs.Places.{sub_of}
+use Rattle.eleos_base.specs.Places.{sub_of}
 use Rattle.eleos_host.specs.declared.port.HostPort.{Ghosts}
 use Rattle.eleos_host.specs.declared.port.HostStore as store
 use Rattle.eleos_host.specs.Taps.{TapState, failed_block}
 use Rattle.eleos_turn.specs.Hands.{refused_at}
 use Rattle.eleos_base.specs.Words.{IsBusy}
 use Rattle.eleos_machine.specs.Passes.{PassState, plan_of, seals_of}
-use Rattle.eleos_pages.specs.Accesses.{IsAccess, page_at}
+use Rattle.eleos_core.specs.Accesses.{IsAccess, page_at}
 use Rattle.eleos_pages.specs.Crossed.{HasCrossed, at_place, came, spoiled_by}
-use Rattle.eleos_pages.specs.Replies.{refusal_reply}
+use Rattle.eleos_base.specs.Answers.{access_refusal_reply}
 use Rattle.eleos_direct.specs.declared.refusals.TryRefused.{TryRefused}
 use Rattle.eleos_direct.specs.declared.refusals.TryRefused.TheVariants.{Access, Busy}
-use Rattle.eleos_direct.specs.Entered.{Enters}
-use Rattle.eleos_direct.specs.Held.{access_stamp}
+use Rattle.eleos_pages.specs.Entered.{Enters}
+use Rattle.eleos_pages.specs.Held.{access_stamp}
 
 module _ {P : Type 0} (port : Ghosts P) (host : store.Ghosts P) where
   -- the access is the pass's one new entry, with the block that came for it, if one did. The call began its tap once, so that what crossed
   -- since then is all that crossed in it: the host gave that block alone, for the sub-page of the address, and took just the blocks that the
   -- entry seals. Where the block did not pass the tap names it.
   pub record HasAccessed (s : PassState) (before : TapState P) (at : Addr) (op : Calls) (reply : Reply) (s' : PassState) (tap : TapState P) : Type 0 where
-    pub entered : Enters s (access_stamp s op (came tap) reply) s'
+    pub entered : Enters s (access_stamp s op (came tap) reply) [] s'
     pub crossed : HasCrossed port host before tap (at_place (sub_of (plan_of s) at) (came tap)) (puts_of (plan_of s) (seals_of s) (access_stamp s op (came tap) reply).entry entered.past)
     pub spoiled : failed_block tap ≡ spoiled_by reply (came tap)
 
@@ -39,5 +39,5 @@ module _ {P : Type 0} (port : Ghosts P) (host : store.Ghosts P) where
   -- what an access of so many bytes that never waits does, by its answer: it has this reply where it is accepted
   abbrev pub TriesAccess : PassState → TapState P → Addr → Calls → ℕ → Reply → Result (Unit {0}) TryRefused → PassState → TapState P → Type 0
   TriesAccess s before at op n good (Ok done) s' tap = HasAccessed s before at op good s' tap
-  TriesAccess s before at op n good (Err (Access refused)) s' tap = HasAccessed s before at op (refusal_reply refused) s' tap
+  TriesAccess s before at op n good (Err (Access refused)) s' tap = HasAccessed s before at op (access_refusal_reply refused) s' tap
   TriesAccess s before at op n good (Err (Busy word)) s' tap = FoundBusy s before at n word s' tap

@@ -8,7 +8,7 @@ use Rattle.eleos_base.specs.declared.plan.Plan.{Plan}
 use Rattle.eleos_core.specs.declared.event.Event.TheVariants.{Op}
 use Rattle.eleos_core.specs.declared.event.Wanted.TheVariants.{Op as ACall}
 use Rattle.eleos_core.specs.Legal.{CoreStep, wanted_refusal}
-use Rattle.eleos_core.specs.Places.{sub_of}
+use Rattle.eleos_base.specs.Places.{sub_of}
 use Rattle.eleos_core.specs.Seals.{Seals}
 use Rattle.eleos_core.specs.State.{History, entry, last, places}
 

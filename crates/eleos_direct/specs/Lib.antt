@@ -1,4 +1,3 @@
-pub mod Entered
 pub mod Held
 pub mod Accesses
 pub mod Laws

@@ -2,16 +2,16 @@
 ghost use Rattle.std.specs.Prelude.{◌≡◌, MatchOption};
 ghost use Rattle.eleos_base.specs.Plain.{is_in_range};
 ghost use Rattle.eleos_base.specs.Plans.{IsCaller, IsGood, enclave_of, sub_bytes};
-ghost use Rattle.eleos_core.specs.Places.{subs};
-ghost use Rattle.eleos_direct.specs.Entered.{CanCall};
-ghost use Rattle.eleos_direct.specs.Held.{IsOutside, IsPageOf};
+ghost use Rattle.eleos_base.specs.Places.{subs};
+ghost use Rattle.eleos_pages.specs.Entered.{CanCall};
+ghost use Rattle.eleos_pages.specs.Held.{IsOutside, IsPageOf};
 ghost use Rattle.eleos_machine.specs.Machines.{plan_at};
 ghost use Rattle.eleos_pages.specs.Crossed.{HasBegun};
 
 use eleos_base::{Addr, Plan, Sealer};
 use eleos_core::{is_in_range, spot_of};
 use eleos_host::{HostPort, Tap};
-use eleos_machine::{Machine, Pass};
+use eleos_machine::{Machine, Pass, page_cell};
 
 /// Begins the tap for an access of so many bytes, and finds the number of its page's cell. There is
 /// none where the access is out of range.
@@ -32,8 +32,7 @@ pub(crate) fn begin<S: Sealer, P: HostPort>(
     if !is_access(plan, pass.who(), at, len) {
         return None;
     }
-    // The page cells come after an alloc cell and a clock cell of each enclave, and the pool's clock cell.
-    Some(2 * plan.enclaves.len() as u32 + 1 + spot_of(plan, at).page)
+    Some(page_cell(plan, spot_of(plan, at).page))
 }
 
 /// So many bytes from the address on lie in one sub-page of the caller's enclave.

@@ -1,9 +1,9 @@
-//! Reads and writes of a caller within one sub-page, wherever its page is. Each is one entry of the machine's
+//! Reads and writes of a caller within one sub-page, wherever its page is. Each is one entry of the
+//! machine's
 //! history, needs no frame and takes no memory.
 #![tactic(auto)]
 
 mod begins;
-mod ends;
 pub mod laws;
 mod reads;
 mod refusals;
@@ -11,4 +11,4 @@ mod writes;
 
 pub use reads::{read, refuse_read, try_read};
 pub use refusals::TryRefused;
-pub use writes::{MOST_WRITTEN, try_write, write};
+pub use writes::{try_write, write};

@@ -4,19 +4,19 @@ ghost use Rattle.eleos_base.specs.declared.memory.Op.TheVariants as calls;
 ghost use Rattle.eleos_base.specs.declared.memory.Reply.TheVariants as replies;
 ghost use Rattle.eleos_core.specs.Accesses.{read_stamp};
 ghost use Rattle.eleos_direct.specs.Accesses.{HasAccessed, TriesAccess};
-ghost use Rattle.eleos_direct.specs.Entered.{CanCall, Enters};
-ghost use Rattle.eleos_direct.specs.Held.{AccessesHeld, HoldsPage, IsOutside, access_stamp};
+ghost use Rattle.eleos_pages.specs.Entered.{CanCall, Enters};
+ghost use Rattle.eleos_direct.specs.Held.{AccessesHeld};
+ghost use Rattle.eleos_pages.specs.Held.{HoldsPage, IsOutside, access_stamp};
 ghost use Rattle.eleos_machine.specs.Machines.{plan_at};
 ghost use Rattle.eleos_pages.specs.Crossed.{IsReady, came, came_if};
-ghost use Rattle.eleos_pages.specs.Replies.{read_reply};
+ghost use Rattle.eleos_base.specs.Answers.{read_reply};
 
 use crate::begins::begin;
-use crate::ends::end;
 use crate::refusals::{TryRefused, reply_to};
 use eleos_base::{AccessRefused, Addr, Sealer};
 use eleos_host::{HostPort, Tap};
 use eleos_machine::{Machine, Pass};
-use eleos_pages::{Accessed, read_page};
+use eleos_pages::{Accessed, end, read_page};
 use eleos_plot::{Cell, EventRef, OpRef, ReplyRef};
 use std::sync::Wait;
 
@@ -72,12 +72,14 @@ pub fn try_read<S: Sealer, P: HostPort>(
     }
 }
 
-/// Stamps the refusal of a read of so many bytes that is out of range. It has no buffer, so the read
+/// Stamps the refusal of a read of so many bytes that is out of range. It has no buffer, so the
+/// read
 /// may be longer than any.
 pub fn refuse_read<S: Sealer>(m: &Machine<S>, pass: &mut Pass, at: Addr, len: u32)
     requires can { CanCall m.now pass.old }
     requires outside { IsOutside (plan_at m.now) pass.old.hand.number at len }
-    ensures { Enters pass.old (access_stamp pass.old (calls.Read at len) [] replies.BadRange) pass.new }
+    ensures { Enters pass.old
+        (access_stamp pass.old (calls.Read at len) [] replies.BadRange) [] pass.new }
 {
     pass.set(EventRef::Op(OpRef::Read { at, len }), ReplyRef::BadRange);
     m.stamp(pass);
@@ -96,7 +98,7 @@ fn read_held<S: Sealer, P: HostPort>(
     requires holds { HoldsPage m.now pass.old at (length buf.old) cell value }
     requires ready { IsReady tap.old }
     ensures accessed { AccessesHeld P.HostPort.own P.HostStore.own pass.old tap.old at
-        (calls.Read at (length buf.old)) (read_reply result buf.new) pass.new tap.new }
+        cell (calls.Read at (length buf.old)) (read_reply result buf.new) pass.new tap.new }
     ensures refused { OnErr result (buf.new ≡ buf.old) }
 {
     let Cell::Page(page) = value else {

@@ -1,6 +1,6 @@
 // Why an access that never waits is refused.
 ghost use Rattle.std.specs.Prelude.{◌≡◌, [], length};
-ghost use Rattle.eleos_pages.specs.Replies.{refusal_reply};
+ghost use Rattle.eleos_base.specs.Answers.{access_refusal_reply};
 ghost use Rattle.eleos_plot.specs.Refs.{reply_bytes, reply_of};
 
 use eleos_base::AccessRefused;
@@ -16,7 +16,7 @@ pub enum TryRefused {
 
 /// The refusal as a reply.
 pub(crate) fn reply_to<'a>(refused: AccessRefused) -> ReplyRef<'a>
-    ensures reply { reply_of result ≡ refusal_reply refused }
+    ensures reply { reply_of result ≡ access_refusal_reply refused }
     ensures bytes { reply_bytes result ≡ [] }
 {
     match refused {

@@ -4,24 +4,21 @@ ghost use Rattle.eleos_base.specs.declared.memory.Op.TheVariants as calls;
 ghost use Rattle.eleos_base.specs.declared.memory.Reply.TheVariants as replies;
 ghost use Rattle.eleos_core.specs.Accesses.{write_stamp};
 ghost use Rattle.eleos_direct.specs.Accesses.{HasAccessed, TriesAccess};
-ghost use Rattle.eleos_direct.specs.Entered.{CanCall, Enters};
-ghost use Rattle.eleos_direct.specs.Held.{AccessesHeld, HoldsPage, IsOutside, access_stamp};
+ghost use Rattle.eleos_pages.specs.Entered.{CanCall, Enters};
+ghost use Rattle.eleos_direct.specs.Held.{AccessesHeld};
+ghost use Rattle.eleos_pages.specs.Held.{HoldsPage, IsOutside, access_stamp};
 ghost use Rattle.eleos_machine.specs.Machines.{plan_at};
 ghost use Rattle.eleos_pages.specs.Crossed.{IsReady, came, came_if};
-ghost use Rattle.eleos_pages.specs.Replies.{write_reply};
+ghost use Rattle.eleos_base.specs.Answers.{write_reply};
 
 use crate::begins::begin;
-use crate::ends::end;
 use crate::refusals::{TryRefused, reply_to};
-use eleos_base::{AccessRefused, Addr, Sealer};
+use eleos_base::{AccessRefused, Addr, MOST_WRITTEN, Sealer};
 use eleos_host::{HostPort, Tap};
 use eleos_machine::{Machine, Pass};
-use eleos_pages::{Accessed, write_page};
+use eleos_pages::{Accessed, end, write_page};
 use eleos_plot::{Cell, EventRef, OpRef, ReplyRef};
 use std::sync::Wait;
-
-/// The most bytes that `write` and `try_write` take.
-pub const MOST_WRITTEN: usize = 8192;
 
 /// Writes within one sub-page. It waits for the turn of the page.
 pub fn write<S: Sealer, P: HostPort, R: Wait>(
@@ -78,7 +75,7 @@ fn refuse_write<S: Sealer>(m: &Machine<S>, pass: &mut Pass, at: Addr, bytes: &[u
     requires bytes { length bytes.now ≤ MOST_WRITTEN }
     requires outside { IsOutside (plan_at m.now) pass.old.hand.number at (length bytes.now) }
     ensures { Enters pass.old (access_stamp pass.old (calls.Write at bytes.now) [] replies.BadRange)
-        pass.new }
+        [] pass.new }
 {
     pass.set(EventRef::Op(OpRef::Write { at, bytes }), ReplyRef::BadRange);
     m.stamp(pass);
@@ -97,7 +94,7 @@ fn write_held<S: Sealer, P: HostPort>(
     requires holds { HoldsPage m.now pass.old at (length bytes.now) cell value }
     requires ready { IsReady tap.old }
     ensures { AccessesHeld P.HostPort.own P.HostStore.own pass.old tap.old at
-        (calls.Write at bytes.now) (write_reply result) pass.new tap.new }
+        cell (calls.Write at bytes.now) (write_reply result) pass.new tap.new }
 {
     let Cell::Page(mut page) = value else {
         unreachable!()

@@ -1,30 +1,49 @@
 -- The blocks that came into the slots of a tap.
-use Rattle.std.proofs.Common.{◌≡◌, ℕ, List, [], ◌∷◌, false, Option, Some, None, is_some, option_map, if◌then◌else◌, replicate, refl, sym, ap, subst}
-use Rattle.eleos_core.specs.declared.cells.sub_page.SubPage.{SubPage}
-use Rattle.eleos_core.specs.Accesses.{AreBlocks, IsOpened, block_places}
-use Rattle.eleos_core.specs.Cells.{part_with, sub_size}
-use Rattle.eleos_core.specs.Seals.{Seals}
-use Rattle.eleos_core.proofs.OpenedTexts.{opened-blank}
+use Rattle.std.proofs.Common.{◌≡◌, ◌≢◌, ℕ, List, [], ◌∷◌, true, Option, Some, None, option_map, if◌then◌else◌, refl, sym, ◌∙◌, ap, subst, arith, get_or-set_other}
+use Rattle.eleos_base.specs.declared.memory.Reply.{Reply}
+use Rattle.eleos_base.specs.declared.memory.Reply.TheVariants.{Tampered}
+use Rattle.eleos_core.specs.Parts.{SubPart}
+use Rattle.eleos_core.specs.Texts.{came_for}
 use Rattle.eleos_host.specs.declared.port.HostPort.{Ghosts}
 use Rattle.eleos_host.specs.declared.port.HostStore as store
+use Rattle.eleos_host.specs.declared.slot.SlotState.{SlotState}
+use Rattle.eleos_host.specs.declared.slot.SlotState.TheVariants.{Idle, AsItCame, Lent}
+use Rattle.eleos_host.specs.Blocks.{zero_block}
 use Rattle.eleos_host.specs.Stores.{Store}
-use Rattle.eleos_host.specs.Taps.{TapState, IsIdle, block_of}
-use Rattle.eleos_pages.specs.Crossed.{Crosses, at_place, came, came_as, with_puts}
+use Rattle.eleos_host.specs.Taps.{TapState, IsAsItCame, IsIdle, block_of, failed_block, lent_state, state_of, with_failed, with_lent, with_port}
+use Rattle.eleos_pages.specs.Crossed.{Crosses, at_place, came, came_as, came_in, spoiled_by, with_puts}
+use Rattle.eleos_base.specs.Lists.{last_of}
 
--- none for no place
-pub no_places : (s : ℕ) (u : SubPage) → is_some u.tag ≡ false → AreBlocks (block_places s (part_with u [])) []
-no_places s u blank = subst (λ v. AreBlocks (if v then s ∷ [] else []) []) (sym blank) (record { count = refl; each = tt })
+-- no block is named where none came
+pub none-spoiled : (reply : Reply) → spoiled_by reply [] ≡ None
+none-spoiled (Tampered s) = refl
+none-spoiled _ = refl
 
 module _ {P : Type 0} where
+  -- the block that came for a sealed sub-page lies in its slot as it came
+  pub as_it_came : (tap : TapState P) (slot : ℕ) (u : SubPart) → came_in slot tap ≡ came_for u (block_of tap slot) → u.is_sealed ≡ true → IsAsItCame tap slot
+  as_it_came tap slot u came_is sealed = by_state (state_of tap slot) (block_of tap slot) (came_is ∙ ap (λ v. if v then block_of tap slot ∷ [] else []) sealed)
+    where
+      by_state : (s : SlotState) (b : List ℕ) → came_as s b ≡ b ∷ [] → s ≡ AsItCame
+      by_state Idle b e = absurd (cc)
+      by_state AsItCame b e = refl
+      by_state Lent b e = absurd (cc)
+
+  -- and where it does not pass the tap names it
+  pub names-spoiled : (tap : TapState P) (u : SubPart) (s : ℕ) (reply : Reply) → came tap ≡ came_for u (block_of tap 0) → u.is_sealed ≡ true → reply ≡ Tampered s
+      → failed_block (with_failed tap 0) ≡ spoiled_by reply (came tap)
+  names-spoiled tap u s reply came_is sealed is =
+      sym (ap (λ r. spoiled_by r (came tap)) is ∙ ap last_of (came_is ∙ ap (λ v. if v then block_of tap 0 ∷ [] else []) sealed))
+
+  -- what came into the first slot stays there while a block goes from the second
+  pub came-handed : (tap : TapState P) (block : List ℕ) (port : P) → came (with_port (with_lent tap 1 block) port) ≡ came tap
+  came-handed tap block port =
+      let other : 0 ≢ 1 = omega arith in
+      (λ i. came_as (get_or-set_other tap.states 1 0 (lent_state (state_of tap 1)) Idle other i) (get_or-set_other tap.blocks 1 0 block zero_block other i))
+
   -- before anything came
   pub came-idle : (tap : TapState P) → IsIdle tap 0 → came tap ≡ []
   came-idle tap idle = ap (λ s. came_as s (block_of tap 0)) idle
-
-  -- a blank sub-page is opened to zeros
-  pub opens-blank : (x : Seals) (s : ℕ) (u : SubPage) (tap : TapState P) (text : List ℕ) → IsIdle tap 0 → is_some u.tag ≡ false → text ≡ replicate sub_size 0
-      → IsOpened x s (part_with u []) (came tap) text
-  opens-blank x s u tap text idle blank zero =
-      subst (λ blocks. IsOpened x s (part_with u []) blocks text) (sym (came-idle tap idle)) (opened-blank x s u [] text blank (no_places s u blank) zero)
 
 -- a store that takes no block stays
 same_store : (o : Option Store) → o ≡ option_map (λ s. with_puts s []) o
@@ -42,3 +61,7 @@ module _ {P : Type 0} (port : Ghosts P) (host : store.Ghosts P) where
       → Crosses port host old new (at_place place' blocks) puts'
   crosses-as old new place place' blocks puts puts' crossed at same =
       subst (λ s. Crosses port host old new (at_place s blocks) puts') at (subst (Crosses port host old new (at_place place blocks)) (sym same) crossed)
+
+  -- and where a block is named then
+  pub crosses-failed : (old new : TapState P) (slot : ℕ) (given taken : List (ℕ × List ℕ)) → Crosses port host old new given taken → Crosses port host old (with_failed new slot) given taken
+  crosses-failed old new slot given taken c = record { gave = c.gave; took = c.took; all_given = c.all_given; all_taken = c.all_taken; store = c.store; no_begin = c.no_begin }

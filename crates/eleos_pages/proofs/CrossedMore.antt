@@ -24,7 +24,8 @@ stores-append : (o : Option Store) (xs ys : List (ℕ × List ℕ)) → option_m
 stores-append None xs ys = refl
 stores-append (Some s) xs ys = ap Some (sym (with_puts-append s xs ys))
 
-stores-none : (o : Option Store) → o ≡ option_map (λ s. with_puts s []) o
+-- a store that takes no block stays
+pub stores-none : (o : Option Store) → o ≡ option_map (λ s. with_puts s []) o
 stores-none None = refl
 stores-none (Some s) = refl
 

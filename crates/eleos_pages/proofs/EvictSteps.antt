@@ -29,6 +29,7 @@ sent_most x s v = by_dirty v.is_dirty
     by_dirty true = omega arith
     by_dirty false = omega arith
 
+-- a sub-page is sealed to one block at the most
 pub sent_few : (x : Seals) (s m : ℕ) (v : SubPart) → m ≡ length (option_to_list (sealed_block x s v)) → m ≤ 1
 sent_few x s m v is = let most = sent_most x s v in omega arith
 
@@ -55,9 +56,11 @@ module _ (x : Seals) (first : ℕ) (old : List SubPage) (bytes : List ℕ) (i : 
     blocks_next = ap (λ n. blocks_to n) (add-one i) ∙ (blocks-more x first parts i (part_with u text) in_parts
         ∙ ap (λ v. blocks_to i ++ option_to_list (sealed_block x (first + i) v)) (part_at_place x bytes old first i text inside text_is (part_with u text) ∙ ap (λ (v : SubPage). part_with v text) (sym value)))
 
+    -- with one sub-page more, as many blocks more were put as it is sealed to
     pub sent_next : (n m : ℕ) → n ≡ length (blocks_to i) → m ≡ length (option_to_list (sealed_block x (first + i) (part_with u text))) → n + m ≡ length (blocks_to (i + 1))
     sent_next n m so_far more = (λ t. so_far t + more t) ∙ (sym (length-append (blocks_to i) (option_to_list (sealed_block x (first + i) (part_with u text)))) ∙ ap length (sym blocks_next))
 
+    -- the host took the blocks so far, and then those of one sub-page more
     pub gone_next : {P : Type 0} (port : Ghosts P) (host : store.Ghosts P) (a b c : TapState P) → Crosses port host a b [] (blocks_to i)
         → Crosses port host b c [] (option_to_list (sealed_block x (first + i) (part_with u text))) → Crosses port host a c [] (blocks_to (i + 1))
     gone_next port host a b c so_far more = crosses-same port host a c _ _ _ _ refl (sym blocks_next) (crosses-then port host a b c [] [] _ _ so_far more)

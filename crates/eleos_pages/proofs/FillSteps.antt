@@ -40,6 +40,7 @@ module _ {P : Type 0} (x : Seals) (p : ℕ) (subs : List SubPage) (all : length 
   whole : length us ≡ 4
   whole = length-sub_parts subs None ∙ all
 
+  -- where its block passed, if it has one, the slots up to it have their blocks as they came
   pub come_by : (m : ℕ) → m ≡ count_for u → tap' ≡ opened_by (is_some u.tag) true n tap tap'.port block → HasCome (n + m) tap'
   come_by m same made = subst (λ z. HasCome (n + z) tap') (sym same) (come_next tap tap' n u come (omega arith) made)
 
@@ -57,6 +58,7 @@ module _ {P : Type 0} (x : Seals) (p : ℕ) (subs : List SubPage) (all : length 
         (filled_next x p us i inside whole block (blocks_below n tap) bytes new so_far
         (subst (λ v. IsOpened x s v (came_for v block) (piece i new)) (sym here) opened) (elsewhere_same i bytes text inside so_far.whole fits))
 
+    -- then the page is filled up to the next sub-page, with these bytes at this one
     pub fill_by : (m : ℕ) → m ≡ count_for u → (text : List ℕ) → tap' ≡ opened_by (is_some u.tag) true n tap tap'.port block → IsOpened x s (part_with u []) (came_in n tap') text → length text ≡ 1024
         → FilledTo x p us (i + 1) (blocks_below (n + m) tap') (put_mid (i * 1024) (i * 1024 + 1024 - i * 1024) bytes text)
     fill_by m same text made opens fits = subst (λ z. FilledTo x p us (i + 1) (blocks_below (n + z) tap') (put_mid (i * 1024) (i * 1024 + 1024 - i * 1024) bytes text)) (sym same) (fill_next text made opens fits)
@@ -72,6 +74,7 @@ module _ {P : Type 0} (x : Seals) (p : ℕ) (subs : List SubPage) (all : length 
       last_below : blocks_below (n + 1) tap' ≡ blocks_below n tap ++ came_for (get_or us i blank_sub) block
       last_below = below_last tap tap' n u come (omega arith) sealed made ∙ ap (λ v. blocks_below n tap ++ came_for v block) (sym here)
 
+      -- the page is spoiled at this sub-page
       pub fill_spoiled : (k : Plan) → IsSpoiledAt k x p (absent_page subs) (blocks_below (n + 1) tap') s
       fill_spoiled k = subst (λ cs. IsSpoiledAt k x p (absent_page subs) cs s) (sym last_below)
           (filled_spoiled x p us i inside whole block k (blocks_below n tap) bytes so_far (subst (λ v. judged_sub x s v (came_for v block) ≡ failed s) (sym here) spoiled_is))
@@ -98,10 +101,12 @@ module _ {P : Type 0} (x : Seals) (p : ℕ) (subs : List SubPage) (all : length 
           = below_next tap tap' n u come (omega arith) made ∙ ap (λ v. blocks_below n tap ++ came_for v block) (sym here) in
           crosses-same port host first tap' _ _ _ _ (ap (each_at (places_to x p us (i + 1))) (sym below)) refl more_crossed
 
+      -- where the block passed, the host gave just the blocks up to here, each for its place
       pub crossed_by : (m : ℕ) → m ≡ count_for u → tap' ≡ opened_by (is_some u.tag) true n tap tap'.port block
           → Crosses port host first tap' (each_at (places_to x p us (i + 1)) (blocks_below (n + m) tap')) []
       crossed_by m same made = subst (λ z. Crosses port host first tap' (each_at (places_to x p us (i + 1)) (blocks_below (n + z) tap')) []) (sym same) (crossed_next made)
 
+      -- where it did not pass, the host gave just the blocks up to here, for the first of the page's sealed places
       pub crossed_last : tap' ≡ opened_by (is_some u.tag) false n tap tap'.port block → judged_sub x s (part_with u []) (came_in n tap') ≡ failed s
           → Crosses port host first tap' (each_at (sealed_places p (absent_page subs)) (blocks_below (n + 1) tap')) []
       crossed_last made spoiled =

@@ -1,6 +1,7 @@
 -- What crossed between a tap and its host in a call.
 use Rattle.std.specs.Prelude.{◌≡◌, ℕ, zero, suc, List, [], ◌∷◌, ◌++◌, ◌<◌, ◌≤◌, map, Bool, Option, Some, None, option_map, if◌then◌else◌}
 use Rattle.std.specs.List.{AllByRecursion}
+use Rattle.eleos_base.specs.Lists.{last_of}
 use Rattle.eleos_base.specs.declared.memory.Reply.{Reply}
 use Rattle.eleos_base.specs.declared.memory.Reply.TheVariants.{Tampered}
 use Rattle.eleos_host.specs.declared.port.HostPort.{Ghosts}
@@ -38,11 +39,6 @@ each_at (place ∷ places) [] = []
 each_at (place ∷ places) (block ∷ blocks) = (place, block) ∷ each_at places blocks
 
 -- the block that the reply says did not pass: the last that came
-abbrev pub last_of : List (List ℕ) → Option (List ℕ)
-last_of [] = None
-last_of (block ∷ []) = Some block
-last_of (block ∷ blocks) = last_of blocks
-
 abbrev pub spoiled_by : Reply → List (List ℕ) → Option (List ℕ)
 spoiled_by (Tampered s) blocks = last_of blocks
 spoiled_by _ blocks = None

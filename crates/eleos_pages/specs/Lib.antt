@@ -1,3 +1,6 @@
-pub mod Replies
 pub mod Crossed
-pub mod Accesses
+pub mod Entered
+pub mod Held
+pub mod Exchanges
+pub mod Evicted
+pub mod Filled

@@ -3,22 +3,25 @@ ghost use Rattle.std.specs.Prelude.{◌≡◌, ◌+◌, ◌*◌, ◌<◌, ◌≤
 ghost use Rattle.eleos_base.specs.Lists.{map_from};
 ghost use Rattle.eleos_base.specs.Plain.{zeros};
 ghost use Rattle.eleos_base.specs.Plans.{page_bytes};
-ghost use Rattle.eleos_core.specs.Cells.{IsUse, part_of_frame, part_of_page, part_with, piece, subs_per_page};
+ghost use Rattle.eleos_core.specs.Cells.{IsUse, part_of_frame, part_of_page, part_with, piece};
+ghost use Rattle.eleos_core.specs.Cells.{subs_per_page};
 ghost use Rattle.eleos_core.specs.Evicts.{CanLeave, sealed_blocks, sealed_sub};
 ghost use Rattle.eleos_core.specs.Parts.{frame_part, page_part, subs_in};
 ghost use Rattle.eleos_core.specs.Seals.{seals_by};
 ghost use Rattle.eleos_core.specs.declared.cells.sub_page.SubPage.{SubPage};
 ghost use Rattle.eleos_pages.specs.Crossed.{Crosses};
 
-use crate::sealing::{SUB_BYTES, evict_sub};
+use crate::sealing::evict_sub;
 use eleos_base::Sealer;
-use eleos_core::{Frame, Page, SubPage, Use, clear};
+use eleos_core::{Frame, Page, SubPage, TEXT_BYTES, Use, clear};
 use eleos_host::{HostPort, Tap};
 
-/// The slot from which the blocks of a page that leaves its frame go to the host, one after another.
+/// The slot from which the blocks of a page that leaves its frame go to the host, one after
+/// another.
 const GONE: usize = 0;
 
-/// Seals the dirty sub-pages of a page in a frame one by one, the first of which has the place `first`, and
+/// Seals the dirty sub-pages of a page in a frame one by one, the first of which has the place
+/// `first`, and
 /// hands each block to the host. The bytes are zero then. Answers how many blocks that were.
 pub fn evict_bytes<S: Sealer, P: HostPort>(
     sealer: &S,
@@ -45,8 +48,8 @@ pub fn evict_bytes<S: Sealer, P: HostPort>(
 {
     let mut gone = 0;
     for i in 0..subs.len() {
-        let from = i * SUB_BYTES;
-        let text = &mut bytes[from..from + SUB_BYTES];
+        let from = i * TEXT_BYTES;
+        let text = &mut bytes[from..from + TEXT_BYTES];
         gone += evict_sub(sealer, tap, &mut subs[i], first + i as u32, GONE, text);
     }
     clear(bytes);

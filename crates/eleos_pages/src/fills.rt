@@ -1,20 +1,24 @@
 // The bytes of a page that is put into a frame.
-ghost use Rattle.std.specs.Prelude.{◌≡◌, ◌+◌, ◌*◌, ◌<◌, ◌^◌, ℕ, [], length, IfNone, IfSome, None, is_some, if◌then◌else◌};
+ghost use Rattle.std.specs.Prelude.{◌≡◌, ◌+◌, ◌*◌, ◌<◌, ◌≤◌, ◌^◌, ℕ, [], length, IfNone, IfSome};
+ghost use Rattle.std.specs.Prelude.{None, is_some, if◌then◌else◌};
 ghost use Rattle.eleos_base.specs.Plain.{zeros};
 ghost use Rattle.eleos_base.specs.Plans.{page_bytes};
 ghost use Rattle.eleos_base.specs.declared.plan.Plan.{Plan};
-ghost use Rattle.eleos_core.specs.Cells.{IsPresent, IsUse, part_of_frame, part_of_page, subs_per_page};
+ghost use Rattle.eleos_core.specs.Cells.{IsPresent, IsUse, part_of_frame, part_of_page};
+ghost use Rattle.eleos_core.specs.Cells.{subs_per_page};
 ghost use Rattle.eleos_core.specs.Fills.{IsFree, absent_page, fill_stamp, sealed_places};
 ghost use Rattle.eleos_core.specs.Legal.{judged, passed};
 ghost use Rattle.eleos_core.specs.Parts.{part_after, passes_in, subs_in, the_frame, the_page};
 ghost use Rattle.eleos_core.specs.Seals.{seals_by};
 ghost use Rattle.eleos_core.specs.Texts.{IsFilled, IsSpoiledAt};
+ghost use Rattle.eleos_host.specs.declared.slot.TheConstants.{SLOTS};
 ghost use Rattle.eleos_host.specs.Taps.{IsAsItCame, failed_block};
-ghost use Rattle.eleos_pages.specs.Crossed.{Crosses, HasCome, blocks_below, each_at, last_of};
+ghost use Rattle.eleos_pages.specs.Crossed.{Crosses, HasCome, blocks_below, each_at};
+ghost use Rattle.eleos_base.specs.Lists.{last_of};
 
-use crate::sealing::{SUB_BYTES, open_sub};
+use crate::sealing::open_sub;
 use eleos_base::{Reply, SUBS_PER_PAGE, Sealer};
-use eleos_core::{Frame, Page, Present, SubPage, Use, block_count, clear, lend};
+use eleos_core::{Frame, Page, Present, SubPage, TEXT_BYTES, Use, block_count, clear, lend};
 use eleos_host::{HostPort, Tap};
 
 /// What came for a page that is put into a frame.
@@ -26,8 +30,10 @@ pub struct Came {
     pub spoiled: Option<u32>,
 }
 
-/// Opens the sub-pages of an absent page one after another into zero bytes. The block of each sealed one
-/// comes into the next slot. It stops at the first that does not pass, which the tap names, and then the
+/// Opens the sub-pages of an absent page one after another into zero bytes. The block of each
+/// sealed one
+/// comes into the next slot. It stops at the first that does not pass, which the tap names, and
+/// then the
 /// bytes are zero again.
 pub fn fill_bytes<S: Sealer, P: HostPort>(
     sealer: &S,
@@ -41,7 +47,8 @@ pub fn fill_bytes<S: Sealer, P: HostPort>(
     requires zero { bytes.old ≡ zeros page_bytes }
     requires room { length bytes.old ≡ page_bytes }
     requires ready { HasCome 0 tap.old }
-    ensures filled { IfNone result.spoiled ((k : Plan) → IsFilled k (seals_by (S.key sealer.now)) page
+    ensures filled { IfNone result.spoiled
+        ((k : Plan) → IsFilled k (seals_by (S.key sealer.now)) page
         (absent_page subs.now) (blocks_below result.blocks tap.new) bytes.new) }
     ensures spoiled { IfSome result.spoiled (λ place. (k : Plan)
         → IsSpoiledAt k (seals_by (S.key sealer.now)) page
@@ -50,6 +57,7 @@ pub fn fill_bytes<S: Sealer, P: HostPort>(
     ensures crossed { Crosses P.HostPort.own P.HostStore.own tap.old tap.new
         (each_at (sealed_places page (absent_page subs.now)) (blocks_below result.blocks tap.new))
         [] }
+    ensures few { result.blocks ≤ SLOTS }
     ensures slots { (slot : ℕ) → slot < result.blocks → IsAsItCame tap.new slot }
     ensures failed { failed_block tap.new ≡ (if is_some result.spoiled
         then last_of (blocks_below result.blocks tap.new) else None) }
@@ -57,8 +65,8 @@ pub fn fill_bytes<S: Sealer, P: HostPort>(
     let mut blocks = 0;
     for i in 0..subs.len() {
         let place = page * SUBS_PER_PAGE + i as u32;
-        let from = i * SUB_BYTES;
-        let text = &mut bytes[from..from + SUB_BYTES];
+        let from = i * TEXT_BYTES;
+        let text = &mut bytes[from..from + TEXT_BYTES];
         if !open_sub(sealer, tap, &subs[i], place, blocks, text) {
             clear(bytes);
             return Came {
@@ -112,6 +120,7 @@ pub fn fill_page<S: Sealer, P: HostPort>(
     ensures crossed { Crosses P.HostPort.own P.HostStore.own tap.old tap.new
         (each_at (sealed_places page_number (part_of_page page.old))
         (blocks_below result.blocks tap.new)) [] }
+    ensures few { result.blocks ≤ SLOTS }
     ensures slots { (slot : ℕ) → slot < result.blocks → IsAsItCame tap.new slot }
     ensures failed { failed_block tap.new ≡ (if is_some result.spoiled
         then last_of (blocks_below result.blocks tap.new) else None) }

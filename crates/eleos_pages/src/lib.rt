@@ -1,16 +1,24 @@
-//! Pages whose turn is in hand: reads and writes within one of their sub-pages, which take no memory.
+//! Pages whose turn is in hand: reads and writes within one of their sub-pages, and fills and
+//! evicts of a pass. No call takes memory.
 #![tactic(auto)]
 
+mod accessed;
+mod begins;
+mod ends;
+mod evicting;
 mod evicts;
+mod filling;
 mod fills;
 mod reads;
-mod refusals;
 mod sealing;
 mod writes;
 
+pub use accessed::Accessed;
+pub use ends::end;
+pub use evicting::evict;
 pub use evicts::{evict_bytes, evict_page};
+pub use filling::{Filled, fill};
 pub use fills::{Came, fill_bytes, fill_page};
-pub use reads::{read_page, read_present};
-pub use refusals::Accessed;
-pub use sealing::{evict_sub, open_sub, seal_sub};
-pub use writes::{write_page, write_present};
+pub use reads::read_page;
+pub use sealing::{evict_sub, open_sub};
+pub use writes::write_page;

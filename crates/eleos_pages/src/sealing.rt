@@ -1,12 +1,14 @@
 // The text of a sub-page whose page is absent, and the blocks that it is opened from and sealed to.
-ghost use Rattle.std.specs.Prelude.{◌≡◌, ◌+◌, ◌<◌, ◌≤◌, ◌^◌, ◌∷◌, [], length, Some, None, is_some, if◌then◌else◌};
+ghost use Rattle.std.specs.Prelude.{◌≡◌, ◌+◌, ◌<◌, ◌≤◌, ◌^◌, ◌∷◌, [], length, Some, None, is_some};
+ghost use Rattle.std.specs.Prelude.{if◌then◌else◌};
 ghost use Rattle.std.specs.Option.{option_to_list};
-ghost use Rattle.eleos_core.specs.Accesses.{Opens, resealed};
+ghost use Rattle.eleos_core.specs.Accesses.{Opens};
 ghost use Rattle.eleos_core.specs.Cells.{part_with, sub_size};
 ghost use Rattle.eleos_core.specs.Evicts.{sealed_block, sealed_sub};
 ghost use Rattle.eleos_core.specs.Seals.{seals_by};
 ghost use Rattle.eleos_core.specs.Texts.{came_for};
-ghost use Rattle.eleos_pages.specs.Crossed.{Crosses, at_place, came_in, fetched_if, last_of, opened_by};
+ghost use Rattle.eleos_pages.specs.Crossed.{Crosses, at_place, came_in, fetched_if, opened_by};
+ghost use Rattle.eleos_base.specs.Lists.{last_of};
 ghost use Rattle.eleos_host.specs.declared.slot.TheConstants.{SLOTS};
 ghost use Rattle.eleos_host.specs.Taps.{IsIdle, block_of, failed_block, with_lent, with_port};
 
@@ -14,16 +16,14 @@ use eleos_base::Sealer;
 use eleos_core::{SubPage, open_text, seal_dirty};
 use eleos_host::{HostPort, SLOTS, Tap};
 
-/// Bytes of a sub-page.
-pub(crate) const SUB_BYTES: usize = 1024;
-
 /// The slot into which the block of an access comes from the host.
 pub(crate) const COME: usize = 0;
 
 /// The slot from which the block of an access goes to the host.
 pub(crate) const GONE: usize = 1;
 
-/// Opens the sub-page's text: zeros where it is blank, else what the block opens to that the host gives
+/// Opens the sub-page's text: zeros where it is blank, else what the block opens to that the host
+/// gives
 /// into the slot. Answers whether that block passed. Where it did not, the tap names it.
 pub fn open_sub<S: Sealer, P: HostPort>(
     sealer: &S,
@@ -57,7 +57,7 @@ pub fn open_sub<S: Sealer, P: HostPort>(
 }
 
 /// Lets the sub-page's block come into the slot, where it lies sealed.
-fn fetch_for<P: HostPort>(tap: &mut Tap<P>, sub: &SubPage, place: u32, slot: usize)
+pub(crate) fn fetch_for<P: HostPort>(tap: &mut Tap<P>, sub: &SubPage, place: u32, slot: usize)
     requires slot { slot < SLOTS }
     requires idle { IsIdle tap.old slot }
     ensures tap { tap.new
@@ -70,28 +70,6 @@ fn fetch_for<P: HostPort>(tap: &mut Tap<P>, sub: &SubPage, place: u32, slot: usi
     if sub.tag.is_some() {
         tap.fetch(place, slot);
     }
-}
-
-/// Seals the sub-page's text at the next version, and hands the block to the host from the slot.
-pub fn seal_sub<S: Sealer, P: HostPort>(
-    sealer: &S,
-    tap: &mut Tap<P>,
-    sub: &mut SubPage,
-    place: u32,
-    slot: usize,
-    text: &mut [u8],
-)
-    requires slot { slot < SLOTS }
-    requires room { sub.old.version + 1 < 2 ^ 64 }
-    requires size { length text.old ≡ sub_size }
-    ensures part { part_with sub.new []
-        ≡ resealed (seals_by (S.key sealer.now)) place (part_with sub.old []) text.old }
-    ensures crossed { Crosses P.HostPort.own P.HostStore.own tap.old tap.new []
-        ((place, (seals_by (S.key sealer.now)).seal place (sub.old.version + 1) text.old) ∷ []) }
-    ensures tap { tap.new ≡ with_port (with_lent tap.old slot text.new) tap.new.port }
-{
-    sub.seal(sealer, place, text);
-    hand_over(tap, place, slot, text);
 }
 
 /// Seals a sub-page that leaves its frame, in place, and hands the block to the host from the slot,
@@ -113,7 +91,8 @@ pub fn evict_sub<S: Sealer, P: HostPort>(
     ensures crossed { Crosses P.HostPort.own P.HostStore.own tap.old tap.new []
         (option_to_list (sealed_block (seals_by (S.key sealer.now)) place
         (part_with sub.old text.old))) }
-    ensures count { result ≡ length (option_to_list (sealed_block (seals_by (S.key sealer.now)) place
+    ensures count { result
+        ≡ length (option_to_list (sealed_block (seals_by (S.key sealer.now)) place
         (part_with sub.old text.old))) }
     ensures passed { tap.new.failed ≡ None }
 {
@@ -125,7 +104,7 @@ pub fn evict_sub<S: Sealer, P: HostPort>(
 }
 
 /// Hands the block to the host from the slot.
-fn hand_over<P: HostPort>(tap: &mut Tap<P>, place: u32, slot: usize, block: &[u8])
+pub(crate) fn hand_over<P: HostPort>(tap: &mut Tap<P>, place: u32, slot: usize, block: &[u8])
     requires slot { slot < SLOTS }
     requires size { length block.now ≡ sub_size }
     ensures crossed { Crosses P.HostPort.own P.HostStore.own tap.old tap.new []

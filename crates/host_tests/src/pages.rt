@@ -1,16 +1,17 @@
-// A page that leaves its frame and comes back, and accesses of a page in a frame. What else the calls on
+// A page that leaves its frame and comes back, and accesses of a page in a frame. What else the
+// calls on
 // a page do shows in the calls of callers.
 ghost use Rattle.std.specs.Prelude.{◌≡◌, ◌≤◌, IfOk, IsFalse, IsSome, IsTrue};
 ghost use Rattle.eleos_base.specs.Plans.{IsCaller, IsGood};
 ghost use Rattle.eleos_core.specs.Cells.{IsPage};
-ghost use Rattle.eleos_core.specs.Places.{all_frames};
-ghost use Rattle.eleos_pages.specs.Accesses.{IsAccess};
+ghost use Rattle.eleos_base.specs.Places.{all_frames};
+ghost use Rattle.eleos_core.specs.Accesses.{IsAccess};
 
 use eleos_base::{AccessRefused, Addr, EnclavePlan, List, Live, Plan};
-use eleos_core::{Frame, Page, Present, SubPage, Use, is_in_range};
+use eleos_core::{Frame, Page, Present, SubPage, Use, is_in_range, read_present, write_present};
 use eleos_gcm::Gcm;
 use eleos_host::{HostHand, HostSpace, SharedHost, Tap};
-use eleos_pages::{Came, evict_page, fill_page, read_present, write_present};
+use eleos_pages::{Came, evict_page, fill_page};
 use std::alloc::{AllocError, Global};
 use std::test::*;
 
@@ -70,7 +71,8 @@ fn a_page_leaves_and_comes_back(rt: HostRuntime) -> Result<(), Fail> {
     Ok(())
 }
 
-// Who the owner of the sub-pages is, whether they are worn, and what a read and a write of four bytes by
+// Who the owner of the sub-pages is, whether they are worn, and what a read and a write of four
+// bytes by
 // caller 1 answer on a page in a frame, which has bytes of 5.
 const CASES: [Case; 3] = [
     (2, false, Err(OF_TWO), Err(OF_TWO)),

@@ -20,7 +20,8 @@ const BLANK: Text = [0; 8];
 /// What is written to a sub-page that is read only.
 const WRITTEN: Text = [1; 8];
 
-/// What a caller does in each round. No other caller uses its enclave. It reads and writes the first
+/// What a caller does in each round. No other caller uses its enclave. It reads and writes the
+/// first
 /// 8 bytes there.
 #[derive(Clone, Copy, Debug, PartialEq, Eq)]
 pub enum Call {
@@ -74,7 +75,8 @@ impl<'a> Caller<'a> {
         })
     }
 
-    /// Makes the rounds, and answers how many there were before the first that was refused or answered
+    /// Makes the rounds, and answers how many there were before the first that was refused or
+    /// answered
     /// otherwise than it should.
     pub fn make_rounds<R: Wait>(&mut self, rt: &R, call: Call, rounds: u64) -> u64 {
         match call {

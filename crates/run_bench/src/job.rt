@@ -10,7 +10,8 @@ use std::alloc::Global;
 use std::marker::Model;
 use std::sync::Wait;
 
-/// A caller's pass, which has no turn, with its machine and its host. Its way to the host is made in
+/// A caller's pass, which has no turn, with its machine and its host. Its way to the host is made
+/// in
 /// its thread.
 #[derive(Drop)]
 pub struct Job<'a> {
@@ -49,7 +50,8 @@ impl<'a> Job<'a> {
         }
     }
 
-    /// Makes the caller's rounds, and answers how many there were before the first that was refused or
+    /// Makes the caller's rounds, and answers how many there were before the first that was refused
+    /// or
     /// answered otherwise than it should.
     pub fn make_rounds<R: Wait>(
         self,

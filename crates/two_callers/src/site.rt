@@ -32,7 +32,8 @@ pub struct Seen {
     pub is_whole: bool,
 }
 
-/// One enclave of 4 pages with 2 frames, its two callers, and a block of 1,024 bytes that they share.
+/// One enclave of 4 pages with 2 frames, its two callers, and a block of 1,024 bytes that they
+/// share.
 fn plan_of(alloc: Global) -> Result<Plan, NoMemory>
     ensures { IfOk result (λ plan. length plan.callers ≡ 2) }
 {

@@ -1,4 +1,4 @@
-use Rattle.eleos_alloc.specs.Calls.{alloc_reply}
+use Rattle.eleos_base.specs.Answers.{alloc_reply}
 use Rattle.eleos_base.specs.declared.memory.Op.TheVariants as calls
 use Rattle.eleos_alloc.proofs.Outer.{can_call_with, done_then, held_then, own_then, said_bad}
 use Rattle.eleos_alloc.proofs.calls.alloc.Goals as goal

@@ -1,4 +1,4 @@
-use Rattle.eleos_alloc.specs.Calls.{block_reply}
+use Rattle.eleos_base.specs.Answers.{block_reply}
 use Rattle.eleos_alloc.specs.Changes.{call_of}
 use Rattle.eleos_alloc.proofs.Outer.{can_call_with, done_then, held_then, own_then}
 use Rattle.eleos_alloc.proofs.calls.change_block.Goals as goal

@@ -1,6 +1,6 @@
 use Rattle.std.proofs.Common.{◌≡◌, ◌<◌, sym, ◌∙◌, ap, subst, arith}
 use Rattle.eleos_base.specs.declared.plan.Plan.{Plan}
-use Rattle.eleos_core.specs.Places.{all_pages}
+use Rattle.eleos_base.specs.Places.{all_pages}
 use Rattle.eleos_machine.specs.Machines.{Site, all_cells, plan_at}
 use Rattle.eleos_machine.specs.Passes.{plan_of}
 use Rattle.eleos_plot.specs.Cells.{part_of_cell}

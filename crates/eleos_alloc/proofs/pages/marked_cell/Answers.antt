@@ -1,7 +1,7 @@
 use Rattle.std.proofs.Common.{sym, ◌∙◌, subst, ap}
 use Rattle.eleos_core.specs.Allots.{page_marked}
 use Rattle.eleos_core.specs.Cells.{IsPage}
-use Rattle.eleos_core.specs.Places.{all_frames}
+use Rattle.eleos_base.specs.Places.{all_frames}
 use Rattle.eleos_plot.specs.Cells.{part_of_cell}
 use Rattle.eleos_plot.specs.Fits.{IsPageCell}
 use Rattle.eleos_plot.proofs.Fitting.{cells_show}

@@ -13,4 +13,4 @@ returns-in_default-clause-accessed g c =
 pub returns-clause-accessed : goal.returns-clause-accessed
 returns-clause-accessed g c =
     accessed_after g.P.HostPort g.P.HostStore c.args.pass.now c.take-taken.new.pass c.read_held.new.pass c.args.tap.now c.begin.new.tap c.read_held.new.tap c.args.at (Read c.args.at (length c.args.buf.now)) _
-    c.in-Some.cell c.take-taken.result.word c.take-taken.result.value c.take-taken.ensures.took c.begin.ensures.begun c.read_held.ensures.accessed
+    c.in-Some.cell c.take-taken.result.word c.take-taken.result.value c.requires.can.no_turn c.take-taken.ensures.took c.begin.ensures.begun c.read_held.ensures.accessed

@@ -1,10 +1,11 @@
 use Rattle.std.proofs.Common.{refl, sym, ◌∙◌, ap, subst, length}
 use Rattle.eleos_core.specs.Cells.{IsPresent}
-use Rattle.eleos_core.specs.Places.{all_frames}
+use Rattle.eleos_base.specs.Places.{all_frames}
 use Rattle.eleos_core.specs.Seals.{seals_by}
 use Rattle.eleos_machine.specs.Machines.{Site}
 use Rattle.eleos_machine.specs.Passes.{PassState, plan_of}
-use Rattle.eleos_direct.proofs.OnPages.{has_read, may_read, page_fits}
+use Rattle.eleos_direct.proofs.OnPages.{has_read}
+use Rattle.eleos_pages.proofs.OnPages.{may_read, page_fits}
 use Rattle.eleos_direct.proofs.reads.read_held.Goals as goal
 
 pub read_page-accessed-requires-clause-page : goal.read_page-accessed-requires-clause-page

@@ -18,9 +18,9 @@ returns-in-Err-clause-accessed g c =
 pub returns-in-Ok-read_held-clause-accessed : goal.returns-in-Ok-read_held-clause-accessed
 returns-in-Ok-read_held-clause-accessed g c =
     accessed_after g.P.HostPort g.P.HostStore c.args.pass.now c.try_take.new.pass c.read_held.new.pass c.args.tap.now c.begin.new.tap c.read_held.new.tap c.args.at (Read c.args.at (length c.args.buf.now)) _
-    c.in-Some.cell c.in-Ok.taken.word c.in-Ok.taken.value c.in-Ok.ensures.took c.begin.ensures.begun c.in-Ok-read_held.ensures.accessed
+    c.in-Some.cell c.in-Ok.taken.word c.in-Ok.taken.value c.requires.can.no_turn c.in-Ok.ensures.took c.begin.ensures.begun c.in-Ok-read_held.ensures.accessed
 
 pub returns-in-Err-read_held-clause-accessed : goal.returns-in-Err-read_held-clause-accessed
 returns-in-Err-read_held-clause-accessed g c =
     accessed_after g.P.HostPort g.P.HostStore c.args.pass.now c.try_take.new.pass c.read_held.new.pass c.args.tap.now c.begin.new.tap c.read_held.new.tap c.args.at (Read c.args.at (length c.args.buf.now)) _
-    c.in-Some.cell c.in-Ok.taken.word c.in-Ok.taken.value c.in-Ok.ensures.took c.begin.ensures.begun c.in-Err-read_held.ensures.accessed
+    c.in-Some.cell c.in-Ok.taken.word c.in-Ok.taken.value c.requires.can.no_turn c.in-Ok.ensures.took c.begin.ensures.begun c.in-Err-read_held.ensures.accessed

@@ -18,9 +18,9 @@ returns-in-Err g c =
 pub returns-in-Ok-write_held : goal.returns-in-Ok-write_held
 returns-in-Ok-write_held g c =
     accessed_after g.P.HostPort g.P.HostStore c.args.pass.now c.try_take.new.pass c.write_held.new.pass c.args.tap.now c.begin.new.tap c.write_held.new.tap c.args.at (Write c.args.at c.args.bytes.now) _
-    c.in-Some.cell c.in-Ok.taken.word c.in-Ok.taken.value c.in-Ok.ensures.took c.begin.ensures.begun c.in-Ok-write_held.ensures
+    c.in-Some.cell c.in-Ok.taken.word c.in-Ok.taken.value c.requires.can.no_turn c.in-Ok.ensures.took c.begin.ensures.begun c.in-Ok-write_held.ensures
 
 pub returns-in-Err-write_held : goal.returns-in-Err-write_held
 returns-in-Err-write_held g c =
     accessed_after g.P.HostPort g.P.HostStore c.args.pass.now c.try_take.new.pass c.write_held.new.pass c.args.tap.now c.begin.new.tap c.write_held.new.tap c.args.at (Write c.args.at c.args.bytes.now) _
-    c.in-Some.cell c.in-Ok.taken.word c.in-Ok.taken.value c.in-Ok.ensures.took c.begin.ensures.begun c.in-Err-write_held.ensures
+    c.in-Some.cell c.in-Ok.taken.word c.in-Ok.taken.value c.requires.can.no_turn c.in-Ok.ensures.took c.begin.ensures.begun c.in-Err-write_held.ensures

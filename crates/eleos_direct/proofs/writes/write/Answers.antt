@@ -13,4 +13,4 @@ returns-in_default g c =
 pub returns : goal.returns
 returns g c =
     accessed_after g.P.HostPort g.P.HostStore c.args.pass.now c.take-taken.new.pass c.write_held.new.pass c.args.tap.now c.begin.new.tap c.write_held.new.tap c.args.at (Write c.args.at c.args.bytes.now) _
-    c.in-Some.cell c.take-taken.result.word c.take-taken.result.value c.take-taken.ensures.took c.begin.ensures.begun c.write_held.ensures
+    c.in-Some.cell c.take-taken.result.word c.take-taken.result.value c.requires.can.no_turn c.take-taken.ensures.took c.begin.ensures.begun c.write_held.ensures

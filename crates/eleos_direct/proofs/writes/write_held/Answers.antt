@@ -1,7 +1,8 @@
 use Rattle.std.proofs.Common.{refl, sym, ◌∙◌, ap, length}
 use Rattle.eleos_core.specs.Seals.{seals_by}
 use Rattle.eleos_machine.specs.Machines.{Site}
-use Rattle.eleos_direct.proofs.OnPages.{has_written, may_write, page_fits}
+use Rattle.eleos_direct.proofs.OnPages.{has_written}
+use Rattle.eleos_pages.proofs.OnPages.{may_write, page_fits}
 use Rattle.eleos_direct.proofs.writes.write_held.Goals as goal
 
 pub write_page-accessed-requires-clause-page : goal.write_page-accessed-requires-clause-page

@@ -1,10 +1,12 @@
-use Rattle.std.proofs.Common.{◌<◌, ◌∙◌, length, sym, ap, subst, arith}
+use Rattle.std.proofs.Common.{◌<◌, ◌∙◌, length, sym, ap, subst, arith, option_map}
 use Rattle.eleos_core.specs.Cells.{part_of_page}
 use Rattle.eleos_core.specs.Seals.{seals_by}
-use Rattle.eleos_pages.specs.Accesses.{WritesOn, sealed_by}
-use Rattle.eleos_pages.specs.Replies.{write_reply}
-use Rattle.eleos_pages.proofs.CrossedBlocks.{came-idle, crosses-none}
-use Rattle.eleos_pages.proofs.Writing.{write_goes, write_stopped}
+use Rattle.eleos_host.specs.Taps.{block_of}
+use Rattle.eleos_pages.specs.Crossed.{spoiled_by}
+use Rattle.eleos_core.specs.Accesses.{WritesOn, sealed_by}
+use Rattle.eleos_base.specs.Answers.{write_reply}
+use Rattle.eleos_pages.proofs.CrossedBlocks.{came-idle, crosses-none, none-spoiled}
+use Rattle.eleos_core.proofs.Writing.{write_goes, write_stopped}
 use Rattle.eleos_pages.proofs.writes.write_page.Goals as goal
 
 pub returns-in-Some-clause-writes : goal.returns-in-Some-clause-writes
@@ -20,14 +22,14 @@ returns-in-Some-clause-crossed g c =
     (write_stopped c.args.plan.now (seals_by (g.S.Sealer.key c.args.sealer.now)) c.args.who c.args.at c.args.bytes.now c.args.page.now c.spot_of-spot.result c.index.result.now c.spot_of-spot.ensures inside c.index.ensures c.requires.range
     _ _ (sym c.in-Some.ensures) (came-idle c.args.tap.now c.requires.ready.idle)).puts_are
 
-pub write_absent-requires-clause-accepted : goal.write_absent-requires-clause-accepted
-write_absent-requires-clause-accepted g c =
+pub write_fetched-requires-clause-accepted : goal.write_fetched-requires-clause-accepted
+write_fetched-requires-clause-accepted g c =
     let inside : c.spot_of-spot.result.index < length c.args.page.now.subs.items = (let whole = c.requires.page.whole in let in_page = c.spot_of-spot.ensures.in_page in omega arith) in
     (write_goes c.args.plan.now (seals_by (g.S.Sealer.key c.args.sealer.now)) c.args.who c.args.at c.args.bytes.now c.args.page.now c.spot_of-spot.result c.index.result.now c.spot_of-spot.ensures inside c.index.ensures c.requires.range
     (sym c.in_default.ensures)).0
 
-pub write_absent-requires-clause-fresh : goal.write_absent-requires-clause-fresh
-write_absent-requires-clause-fresh g c =
+pub write_fetched-requires-clause-fresh : goal.write_fetched-requires-clause-fresh
+write_fetched-requires-clause-fresh g c =
     let inside : c.spot_of-spot.result.index < length c.args.page.now.subs.items = (let whole = c.requires.page.whole in let in_page = c.spot_of-spot.ensures.in_page in omega arith) in
     (write_goes c.args.plan.now (seals_by (g.S.Sealer.key c.args.sealer.now)) c.args.who c.args.at c.args.bytes.now c.args.page.now c.spot_of-spot.result c.index.result.now c.spot_of-spot.ensures inside c.index.ensures c.requires.range
     (sym c.in_default.ensures)).1
@@ -42,3 +44,8 @@ returns-then-is_some-clause-crossed g c =
     crosses-none g.P.HostPort g.P.HostStore c.args.tap.now _ _ _ (came-idle c.args.tap.now c.requires.ready.idle)
     (ap (λ blocks. sealed_by c.args.plan.now (seals_by (g.S.Sealer.key c.args.sealer.now)) c.args.who c.args.at c.args.bytes.now blocks (part_of_page c.args.page.now) (write_reply c.write_present.result))
     (came-idle c.args.tap.now c.requires.ready.idle) ∙ c.write_present.ensures.sealed (seals_by (g.S.Sealer.key c.args.sealer.now)))
+
+pub returns-then-is_some-clause-failed : goal.returns-then-is_some-clause-failed
+returns-then-is_some-clause-failed g c =
+    let reply = write_reply c.write_present.result in
+    ap (option_map (block_of c.args.tap.now)) c.requires.ready.no_failure ∙ sym (ap (spoiled_by reply) (came-idle c.args.tap.now c.requires.ready.idle) ∙ none-spoiled reply)

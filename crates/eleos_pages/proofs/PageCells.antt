@@ -1,5 +1,5 @@
 -- The cell of a page, and the part of its value.
-use Rattle.std.proofs.Common.{◌≡◌, ℕ, ◌+◌, ◌*◌, ◌<◌, length, true, Option, Some, None, refl, ◌∙◌, ap, arith, if◌then◌else◌}
+use Rattle.std.proofs.Common.{◌≡◌, ℕ, ◌+◌, ◌<◌, length, true, Option, Some, None, refl, ◌∙◌, ap, arith, if◌then◌else◌}
 use Rattle.std.proofs.lemmas.Bool.{eq-eqb}
 use Rattle.eleos_base.specs.declared.memory.Addr.{Addr}
 use Rattle.eleos_base.specs.declared.plan.Plan.{Plan}
@@ -9,17 +9,21 @@ use Rattle.eleos_core.specs.declared.cells.page.Page.{Page as Pages}
 use Rattle.eleos_core.specs.declared.cells.page.Present.{Present}
 use Rattle.eleos_core.specs.Accesses.{IsSpot}
 use Rattle.eleos_core.specs.Cells.{IsPresent, part_of_page}
-use Rattle.eleos_core.specs.Parts.{Part, no_part}
-use Rattle.eleos_core.specs.Places.{all_pages}
+use Rattle.eleos_core.specs.Parts.{Part, no_part, page_cell}
+use Rattle.eleos_base.specs.Places.{all_pages}
 use Rattle.eleos_core.proofs.CellNumbers.{page_is}
 use Rattle.eleos_core.proofs.Spots.{page_inside, range_is}
 use Rattle.eleos_plot.specs.declared.cell.Cell.TheVariants.{Page}
 use Rattle.eleos_plot.specs.Cells.{has_page_bytes, part_of_cell}
-use Rattle.eleos_pages.specs.Accesses.{IsAccess, page_at}
-use Rattle.eleos_direct.specs.Held.{IsPageOf}
+use Rattle.eleos_core.specs.Accesses.{IsAccess, page_at}
+use Rattle.eleos_pages.specs.Held.{IsPageOf}
 
--- the number of the cell of the page of an access in range
-pub page_of_is : (k : Plan) (who : ℕ) (at : Addr) (n cell : ℕ) (spot : Spot) → IsGood k → IsCaller k who → IsAccess k who at n → IsSpot k at spot → cell ≡ 2 * length k.enclaves + 1 + spot.page
+-- the page of an access in range is one of the machine's
+pub spot_within : (k : Plan) (who : ℕ) (at : Addr) (n : ℕ) (spot : Spot) → IsGood k → IsCaller k who → IsAccess k who at n → IsSpot k at spot → spot.page < all_pages k
+spot_within k who at n spot good caller range is = let inside : page_at k at < all_pages k = page_inside k who at n good caller (range_is k who at n range) in let page = is.page in omega (arith, page, inside)
+
+-- the number of the cell of its page
+pub page_of_is : (k : Plan) (who : ℕ) (at : Addr) (n cell : ℕ) (spot : Spot) → IsGood k → IsCaller k who → IsAccess k who at n → IsSpot k at spot → cell ≡ page_cell k spot.page
     → IsPageOf k who at n cell
 page_of_is k who at n cell spot good caller range is found =
     let inside : page_at k at < all_pages k = page_inside k who at n good caller (range_is k who at n range) in
