@@ -13,6 +13,7 @@ use Rattle.eleos_kvwire.specs.Feeding.{HasRead, Holds, Judges, text_with}
 use Rattle.eleos_kvwire.specs.Steps.{GoesOn, Reaches}
 use Rattle.std.proofs.lemmas.List.{take_more, take-append-drop}
 
+-- the test finds a number to be at most another where it is
 pub is_le : (a b : ℕ) → a ≤ b → nat_le a b ≡ true
 is_le a b le = grind (arith, nat_tests)
 

@@ -17,7 +17,9 @@ use Rattle.eleos_kvwire.specs.declared.commands.Given.{Given}
 use Rattle.eleos_kvwire.specs.declared.commands.Given.TheVariants.{Whole, Awaits}
 use Rattle.eleos_kvwire.specs.declared.trace.KvAct.{KvAct}
 use Rattle.eleos_kvwire.specs.declared.trace.KvAct.TheVariants.{Get, Delete, Stat}
-use Rattle.eleos_kvwire.specs.Header.{sizes_line, count_line, key_line, start_line, header_line, stage_after, most_pages, most_frames, most_shards, most_clients, most_wear}
+use Rattle.eleos_base.specs.Limits.{most_pages, most_frames, most_callers, most_wear}
+use Rattle.eleos_texts.specs.Heads.{key_line, start_line}
+use Rattle.eleos_kvwire.specs.Header.{sizes_line, count_line, header_line, stage_after, most_clients}
 use Rattle.eleos_kvwire.specs.Commands.{is_key, is_client, keyed_line, set_line, command_by, command_line, whole, most_value}
 use Rattle.eleos_kvwire.specs.Sessions.{IsCommand, IsSized, key_of}
 
@@ -93,6 +95,7 @@ HasClients header = HasShards header × IsCount 8 header.clients
 abbrev HasWear : Header → Type 0
 HasWear header = HasClients header × IsCount (2 ^ 63) header.wear
 
+-- the header's sizes, shards, clients and wear are in their limits, and so is the length of its key
 abbrev pub HasKey : Header → Type 0
 HasKey header = HasWear header × IsKeyLength (length header.key)
 
@@ -118,7 +121,7 @@ header_ok Sizes before header words e has =
     let a = bind_ok (sizes_line words) _ header e in
     subst (λ (h : Header). HasSizes h) (ok_is (record before { pages = a.0.0; frames = a.0.1 }) header a.2) (sizes_ok words a.0 a.1)
 header_ok Shards before header words e has =
-    let a = bind_ok (count_line (codes "shards") most_shards words) _ header e in
+    let a = bind_ok (count_line (codes "shards") most_callers words) _ header e in
     subst (λ (h : Header). HasShards h) (ok_is (record before { shards = a.0 }) header a.2) (has, count_ok (codes "shards") 8 words a.0 a.1)
 header_ok Clients before header words e has =
     let a = bind_ok (count_line (codes "clients") most_clients words) _ header e in

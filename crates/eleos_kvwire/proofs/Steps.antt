@@ -90,6 +90,7 @@ module _ (header : Header) (line : ℕ) (before : List KvCommand) where
   unfolding read_from
   value_not_bad set held within = rw (append-nil held, is_le (length held) set.len within) refl
 
+  -- a value that can go on has no more bytes than its line announced
   pub value_fits : (set : SetLine) (held : List ℕ) → refusal_in (read_from (stages.Value set) held header line before ([] ∷ [])) ≡ None → length held ≤ set.len
   unfolding read_from
   value_fits set held none = by (nat_le (length held) set.len) refl (rw (append-nil held) at none) where
@@ -182,11 +183,13 @@ goes_bad {A = A} {B = B} view line (Err (line_refused.Bad other)) read (refused.
 module _ (header : Header) (line : ℕ) (before : List KvCommand) (held rest : List ℕ) {A : Type 0} (answer : Result A LineRefused) where
   -- a line of the header
   module _ (due : HeaderLine) (view : A → Header) (given : Reads view answer (header_line due header (slice_split is_blank held))) where
+    -- where its reader takes it, reading goes on behind the newline, at the line of the header that is due next
     pub reads_header : (x : A) → answer_at line answer ≡ Ok x
         → read_from (stages.Header due) held header line before (slice_split is_newline (10 ∷ rest)) ≡ read_from (stage_after due) [] (view x) (line + 1) before (slice_split is_newline rest)
     reads_header x is = ends_header header line before due held rest
         ∙ ap (λ answer. behind line answer λ said. read_from (stage_after due) [] said (line + 1) before (slice_split is_newline rest)) (read_ok view line answer (header_line due header (slice_split is_blank held)) x is given)
 
+    -- where its reader refuses it, the text is bad at this line, unless memory ran out
     pub bad_header : (e : TraceRefused) (later : Text) → answer_at line answer ≡ Err e
         → GoesOn {A = Unit {0}} (Err e) (read_from (stages.Header due) held header line before (slice_split is_newline (10 ∷ rest))) later
     bad_header e later is = rw (ends_header header line before due held rest)
@@ -194,12 +197,14 @@ module _ (header : Header) (line : ℕ) (before : List KvCommand) (held rest : L
 
   -- the line of a command
   module _ (view : A → Given) (more : is (codes "end") held ≡ false) (given : Reads view answer (command_line header.clients (length before) (slice_split is_blank held))) where
+    -- where its reader takes it, reading goes on behind the newline: at a value if one is awaited, and else behind this command
     pub reads_command : (x : A) → answer_at line answer ≡ Ok x
         → read_from stages.Command held header line before (slice_split is_newline (10 ∷ rest)) ≡ read_from (stage_with (view x)) [] header (line + 1) (before ++ commands_in (view x)) (slice_split is_newline rest)
     reads_command x is = ends_command header line before held rest more
         ∙ ap (λ answer. behind line answer λ given. read_from (stage_with given) [] header (line + 1) (before ++ commands_in given) (slice_split is_newline rest))
         (read_ok view line answer (command_line header.clients (length before) (slice_split is_blank held)) x is given)
 
+    -- where its reader refuses it, the text is bad at this line, unless memory ran out
     pub bad_command : (e : TraceRefused) (later : Text) → answer_at line answer ≡ Err e
         → GoesOn {A = Unit {0}} (Err e) (read_from stages.Command held header line before (slice_split is_newline (10 ∷ rest))) later
     bad_command e later is = rw (ends_command header line before held rest more)

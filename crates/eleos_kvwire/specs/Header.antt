@@ -1,34 +1,20 @@
 -- The lines of a session's header, each of which comes once.
-use Rattle.std.specs.Prelude.{ℕ, ◌^◌, List, [], ◌∷◌, length, Bool, true, false, ◌&&◌, nat_le, Result, Ok, codes}
+use Rattle.std.specs.Prelude.{ℕ, List, [], ◌∷◌, Bool, true, false, ◌&&◌, nat_le, Result, Ok, codes}
+use Rattle.eleos_base.specs.Limits.{most_pages, most_frames, most_callers, most_wear}
 use Rattle.eleos_texts.specs.declared.why.Why.{Why}
 use Rattle.eleos_texts.specs.declared.why.Why.TheVariants.{Form, Range}
-use Rattle.eleos_texts.specs.Fields.{is, is_key_length, is_numeral, number, is_up_to, is_hex, bytes_in}
-use Rattle.eleos_texts.specs.Reasons.{unless, with_one, with_two, with_four, ◌>>=◌}
+use Rattle.eleos_texts.specs.Fields.{is, is_numeral, number, is_up_to}
+use Rattle.eleos_texts.specs.Heads.{key_line, start_line}
+use Rattle.eleos_texts.specs.Reasons.{unless, with_two, with_four, ◌>>=◌}
 use Rattle.eleos_kvwire.specs.declared.header.Header.{Header}
 use Rattle.eleos_kvwire.specs.declared.stage.HeaderLine.{HeaderLine}
 use Rattle.eleos_kvwire.specs.declared.stage.HeaderLine.TheVariants.{Title, Sizes, Shards, Clients, Wear, Key, Start}
 use Rattle.eleos_kvwire.specs.declared.stage.Stage.{Stage}
 use Rattle.eleos_kvwire.specs.declared.stage.Stage.TheVariants as stages
 
--- pages of the enclave
-abbrev pub most_pages : ℕ
-most_pages = 1024
-
--- frames of the enclave
-abbrev pub most_frames : ℕ
-most_frames = 512
-
--- shards, each of which is a caller of the enclave
-abbrev pub most_shards : ℕ
-most_shards = 8
-
 -- clients
 abbrev pub most_clients : ℕ
 most_clients = 8
-
--- how often a sub-page may be sealed
-abbrev pub most_wear : ℕ
-most_wear = 2 ^ 63
 
 -- `eleos-kv 1`
 abbrev pub title_line : List (List ℕ) → Result (Unit {0}) Why
@@ -50,22 +36,11 @@ count_line word most = with_two (λ first count. unless (
     ∷ (nat_le 1 (number count) && is_up_to most count, Range) ∷ [])
     (number count))
 
--- `key HEX`
-abbrev pub key_line : List (List ℕ) → Result (List ℕ) Why
-key_line = with_two (λ first key. unless (
-    (is (codes "key") first && is_hex key, Form)
-    ∷ (is_key_length (length (bytes_in key)), Range) ∷ [])
-    (bytes_in key))
-
--- `start`
-abbrev pub start_line : List (List ℕ) → Result (Unit {0}) Why
-start_line = with_one (λ first. unless ((is (codes "start") first, Form) ∷ []) tt)
-
 -- what the line that is due adds to the header before it
 abbrev pub header_line : HeaderLine → Header → List (List ℕ) → Result Header Why
 header_line Title before words = title_line words >>= λ _. Ok before
 header_line Sizes before words = sizes_line words >>= λ sizes. Ok (record before { pages = sizes.0; frames = sizes.1 })
-header_line Shards before words = count_line (codes "shards") most_shards words >>= λ shards. Ok (record before { shards = shards })
+header_line Shards before words = count_line (codes "shards") most_callers words >>= λ shards. Ok (record before { shards = shards })
 header_line Clients before words = count_line (codes "clients") most_clients words >>= λ clients. Ok (record before { clients = clients })
 header_line Wear before words = count_line (codes "wear") most_wear words >>= λ wear. Ok (record before { wear = wear })
 header_line Key before words = key_line words >>= λ key. Ok (record before { key = key })

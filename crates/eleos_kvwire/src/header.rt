@@ -1,35 +1,26 @@
 // The lines of a header.
 ghost use Rattle.std.specs.Prelude.{◌≡◌, ◌≤◌, ◌^◌, List, ℕ, map};
-ghost use Rattle.eleos_kvwire.specs.Header.{title_line, sizes_line, count_line, key_line};
-ghost use Rattle.eleos_kvwire.specs.Header.{start_line, header_line, no_header, most_wear};
+ghost use Rattle.eleos_kvwire.specs.Header.{title_line, sizes_line, count_line};
+ghost use Rattle.eleos_kvwire.specs.Header.{header_line, no_header};
 ghost use Rattle.eleos_kvwire.specs.Reading.{plan_of};
-ghost use Rattle.eleos_texts.specs.Fields.{is_blank, is_key_length};
+ghost use Rattle.eleos_texts.specs.Fields.{is_blank};
 ghost use Rattle.eleos_texts.specs.Reasons.{Reads};
 ghost use Rattle.std.specs.Prelude.{IfOk};
 ghost use Rattle.std.specs.List.{slice_split};
 
 use crate::stage::HeaderLine;
-use eleos_base::{Bytes, EnclavePlan, List, Plan};
-use eleos_texts::counts::{four, one, two};
-use eleos_texts::fields::{hex_bytes, is_numeral, number_up_to};
+use eleos_base::{
+    Bytes, EnclavePlan, List, MOST_CALLERS, MOST_FRAMES, MOST_PAGES, MOST_WEAR, Plan,
+};
+use eleos_texts::counts::{four, two};
+use eleos_texts::fields::{is_numeral, number_up_to};
+use eleos_texts::heads::{key_line, start_line};
 use eleos_texts::splits::words_of;
 use eleos_texts::{LineRefused, Why, refused};
 use std::alloc::{AllocError, Global};
 
-/// Pages of the enclave.
-const MOST_PAGES: u64 = 1024;
-
-/// Frames of the enclave.
-const MOST_FRAMES: u64 = 512;
-
-/// Shards, each of which is a caller of the enclave.
-const MOST_SHARDS: u64 = 8;
-
 /// Clients.
 const MOST_CLIENTS: u64 = 8;
-
-/// How often a sub-page may be sealed.
-const MOST_WEAR: u64 = 1 << 63;
 
 /// What the lines of a header said so far; the others are 0 or empty.
 #[derive(Debug, Drop)]
@@ -103,7 +94,11 @@ impl Header {
                 self.pages = pages;
                 self.frames = frames;
             }
-            HeaderLine::Shards => self.shards = count_line(b"shards", MOST_SHARDS, words)? as u32,
+            HeaderLine::Shards => self.shards = count_line(
+                b"shards",
+                u64::from(MOST_CALLERS),
+                words,
+            )? as u32,
             HeaderLine::Clients => {
                 self.clients = count_line(b"clients", MOST_CLIENTS, words)? as u32;
             }
@@ -139,8 +134,8 @@ fn sizes_line(words: &[&[u8]]) -> Result<(u32, u32), LineRefused>
         return refused(Why::Form);
     }
     let (Some(pages), Some(frames)) = (
-        number_up_to(pages, MOST_PAGES),
-        number_up_to(frames, MOST_FRAMES),
+        number_up_to(pages, u64::from(MOST_PAGES)),
+        number_up_to(frames, u64::from(MOST_FRAMES)),
     ) else {
         return refused(Why::Range);
     };
@@ -167,38 +162,4 @@ fn count_line(word: &[u8], most: u64, words: &[&[u8]]) -> Result<u64, LineRefuse
         return refused(Why::Range);
     }
     Ok(count)
-}
-
-/// `key HEX`
-fn key_line(alloc: Global, words: &[&[u8]]) -> Result<Bytes, LineRefused>
-    ensures { Reads (λ x. x) result (key_line (map (λ word. word.now) words.now)) }
-{
-    let (first, key) = two(words)?;
-    if first != b"key".as_slice() {
-        return refused(Why::Form);
-    }
-    let Some(key) = hex_bytes(alloc, key)? else {
-        return refused(Why::Form);
-    };
-    if !is_key_length(key.len()) {
-        return refused(Why::Range);
-    }
-    Ok(key)
-}
-
-/// A key has so many bytes.
-fn is_key_length(bytes: usize) -> bool
-    ensures { result ≡ is_key_length bytes }
-{
-    bytes == 16 || bytes == 24 || bytes == 32
-}
-
-/// `start`
-fn start_line(words: &[&[u8]]) -> Result<(), LineRefused>
-    ensures { Reads (λ x. x) result (start_line (map (λ word. word.now) words.now)) }
-{
-    if one(words)? != b"start".as_slice() {
-        return refused(Why::Form);
-    }
-    Ok(())
 }

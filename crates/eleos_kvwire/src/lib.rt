@@ -1,4 +1,5 @@
-//! Sessions of the key-value server: their text is fed in pieces, and what comes out is the same however it was cut.
+//! Sessions of the key-value server: their text is fed in pieces, and what comes out is the same
+//! however it was cut.
 #![tactic(auto)]
 
 mod commands;

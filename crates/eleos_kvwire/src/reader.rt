@@ -6,11 +6,8 @@ use crate::header::Header;
 use crate::stage::{HeaderLine, Stage};
 use crate::{KvCommand, KvTrace};
 use eleos_base::List;
-use eleos_texts::{TraceRefused, Why, at_line, is_end};
+use eleos_texts::{MOST_TEXT, TraceRefused, Why, at_line, is_end};
 use std::alloc::Global;
-
-/// Bytes of a session.
-pub(crate) const MOST_TEXT: u32 = 16_777_216;
 
 /// What was read so far.
 #[derive(Debug, Drop)]

@@ -16,7 +16,8 @@ pub(crate) enum HeaderLine {
     Start,
 }
 
-/// The line of a set whose value is still to come: who gives it, its key, and the bytes of its value.
+/// The line of a set whose value is still to come: who gives it, its key, and the bytes of its
+/// value.
 #[derive(Debug, Drop)]
 pub(crate) struct SetLine {
     pub client: u32,

@@ -18,7 +18,8 @@ pub struct KvCommand {
     pub act: KvAct,
 }
 
-/// A machine with one enclave and a caller for each shard, the key of its seals (16, 24 or 32 bytes), the numbers of shards and of clients, and the commands in their order.
+/// A machine with one enclave and a caller for each shard, the key of its seals (16, 24 or 32
+/// bytes), the numbers of shards and of clients, and the commands in their order.
 #[derive(Debug, Drop)]
 pub struct KvTrace {
     pub plan: Plan,

@@ -33,10 +33,12 @@ use Rattle.eleos_report.specs.Reading.{is_equals, parted}
 pub and_both : {a b : Bool} → a ≡ true → b ≡ true → (a && b) ≡ true
 and_both p q = rw (p, q)
 
+-- where two tests hold together, the first holds
 pub and_first : (a b : Bool) → (a && b) ≡ true → a ≡ true
 and_first true b h = refl
 and_first false b h = h
 
+-- and the second holds
 pub and_second : (a b : Bool) → (a && b) ≡ true → b ≡ true
 and_second true b h = h
 and_second false b h = cc
@@ -60,6 +62,7 @@ is_dark word = list_all is_dark_char word
 abbrev pub IsPlain : List ℕ → Type 0
 IsPlain word = is_plain word ≡ true
 
+-- each character of the word has a code from 33 to 126: none is a blank or a newline
 abbrev pub IsDark : List ℕ → Type 0
 IsDark word = is_dark word ≡ true
 
@@ -67,6 +70,7 @@ all_weaker : (p q : ℕ → Bool) → ((c : ℕ) → p c ≡ true → q c ≡ tr
 all_weaker p q step [] h = refl
 all_weaker p q step (c ∷ cs) h = and_both (step c (and_first _ _ h)) (all_weaker p q step cs (and_second _ _ h))
 
+-- a word without blank, newline and `=` is one without blank and newline
 pub dark_from_plain : (word : List ℕ) → IsPlain word → IsDark word
 dark_from_plain word h = all_weaker is_plain_char is_dark_char (λ c p. and_first _ _ p) word h
 
@@ -110,10 +114,12 @@ plain_owner : (owner : Option ℕ) → IfSome owner IsShort → IsPlain (owner_t
 plain_owner None fits = refl
 plain_owner (Some enclave) fits = plain_short enclave fits
 
+-- a stamp, or none, is printed without blank, newline and `=`
 pub plain_stamp : (stamp : Option ℕ) → IfSome stamp IsLong → IsPlain (stamp_text stamp)
 plain_stamp None fits = refl
 plain_stamp (Some stamp) fits = plain_decimal stamp fits
 
+-- so is an actor
 pub plain_actor : (actor : Actor) → IsWho actor → IsPlain (actor_text actor)
 plain_actor (Caller number) is = plain_decimal number (omega (arith, is.1))
 plain_actor Swapper is = refl
@@ -133,9 +139,11 @@ plain_part Untied = refl
 abbrev pub ArePlain : List (List ℕ) → Type 0
 ArePlain words = AllByRecursion IsPlain words
 
+-- none of the words has a blank or a newline
 abbrev pub AreDark : List (List ℕ) → Type 0
 AreDark words = AllByRecursion IsDark words
 
+-- the words of a printed command have neither blank, newline nor `=`
 pub plain_fields : (command : Word) → HasFields command → ArePlain (fields command)
 plain_fields (Alloc name bytes) has = (refl, (plain_name name has.0, (plain_short bytes has.1, tt)))
 plain_fields (Free name) has = (refl, (plain_name name has, tt))
@@ -160,6 +168,7 @@ plain_sweep : (sweep : List Looked) → AllByRecursion IsLooked sweep → ArePla
 plain_sweep [] is = tt
 plain_sweep (looked ∷ sweep) is = (plain_looked looked is.0, plain_sweep sweep is.1)
 
+-- nor have those of a printed reply
 pub plain_answer : (reply : Answer) → HasParts reply → ArePlain (answer_fields reply)
 plain_answer (At at) has = (refl, (plain_short at has, tt))
 plain_answer Okay has = (refl, tt)
@@ -178,10 +187,12 @@ plain_answer (Illegal part) has = (refl, (plain_part part, tt))
 plain_answer Nothing has = (refl, tt)
 plain_answer Skipped has = (refl, tt)
 
+-- words without blank, newline and `=` are words without blank and newline
 pub dark_all : (words : List (List ℕ)) → ArePlain words → AreDark words
 dark_all [] h = tt
 dark_all (word ∷ words) h = (dark_from_plain word h.0, dark_all words h.1)
 
+-- two lists of words without blank and newline are one such list together
 pub dark_both : (a b : List (List ℕ)) → AreDark a → AreDark b → AreDark (a ++ b)
 dark_both [] b p q = q
 dark_both (word ∷ a) b p q = (p.0, dark_both a b p.1 q)
@@ -219,6 +230,7 @@ ascii_word (c ∷ cs) dark = let first = and_first (is_dark_char c) (is_dark cs)
   small : (d : ℕ) → is_dark_char d ≡ true → d < 128
   small d h = grind (arith, nat_tests)
 
+-- words without blank and newline, joined by blanks, are a text of ASCII
 pub ascii_join : (text : List ℕ) (texts : List (List ℕ)) → IsDark text → AreDark texts → IsAscii (join_with_byte 32 (text ∷ texts))
 ascii_join text [] dark rest = ascii_word text dark
 ascii_join text (next ∷ texts) dark rest = IsAscii-append text (32 ∷ join_with_byte 32 (next ∷ texts)) (ascii_word text dark) (IsAscii-cons 32 (join_with_byte 32 (next ∷ texts)) (omega arith) (ascii_join next texts rest.0 rest.1))
@@ -242,9 +254,11 @@ no_equals : (word : List ℕ) → IsPlain word → is_equals word ≡ false
 no_equals [] h = refl
 no_equals (c ∷ cs) h = let first = and_first (is_plain_char c) (is_plain cs) h in grind (arith, nat_tests)
 
+-- with one word more in front, the first words are that word and the first of the others
 pub take-next : (n : ℕ) (word : List ℕ) (words : List (List ℕ)) → take (1 + n) (word ∷ words) ≡ word ∷ take n words
 take-next n word words = let next : 1 + n ≡ suc n = omega arith in rw next refl
 
+-- and what stands behind them is what stands behind the first of the others
 pub drop-next : (n : ℕ) (word : List ℕ) (words : List (List ℕ)) → drop (1 + n + 1) (word ∷ words) ≡ drop (n + 1) words
 drop-next n word words = let next : 1 + n + 1 ≡ suc (n + 1) = omega arith in rw next refl
 

@@ -32,6 +32,7 @@ sweep_again : (sweep : List Looked) → AllByRecursion IsLooked sweep → sweep_
 sweep_again [] is = refl
 sweep_again (looked ∷ sweep) is = rw (looked_again looked is.0, sweep_again sweep is.1) refl
 
+-- the words of a printed reply are read as that reply, in a log of a kind that has such replies
 pub answer_again : (kind : Kind) (reply : Answer) → is_reply kind reply ≡ true → HasParts reply → answer_in kind (answer_fields reply) ≡ Ok reply
 unfolding one one_and_more
 answer_again kind (At at) is has = rw (number_alone-again at has, is) refl

@@ -18,6 +18,7 @@ name_and_number-again : (name : List ℕ) (n : ℕ) → IsName name → IsShort 
 unfolding two
 name_and_number-again name n is fits = rw (name_again name is, short_again n fits) refl
 
+-- a printed number that stands alone is read as that number
 pub number_alone-again : (n : ℕ) → IsShort n → number_alone (decimal n ∷ []) ≡ Ok n
 unfolding one
 number_alone-again n fits = short_again n fits
@@ -26,6 +27,7 @@ two_numbers-again : (a b : ℕ) → IsShort a → IsShort b → two_numbers (dec
 unfolding two
 two_numbers-again a b fits_a fits_b = rw (short_again a fits_a, short_again b fits_b) refl
 
+-- the words of a printed command are read as that command, in a log of a kind that has such commands
 pub command_again : (kind : Kind) (command : Word) → is_command kind command ≡ true → HasFields command → command_in kind (fields command) ≡ Ok command
 unfolding one_and_more three
 command_again kind (Alloc name bytes) is has = rw (name_and_number-again name bytes has.0 has.1, is) refl

@@ -43,9 +43,11 @@ number_decimal n small = (decimal_is_IsNumeral n small).1
 number_again : (most n : ℕ) → n ≤ most → n < 2 ^ 64 → number_of most (decimal n) ≡ Ok n
 number_again most n le small = rw (numeral_decimal n small, number_decimal n small, le_true le) refl
 
+-- a printed number of 32 bits is read as that number
 pub short_again : (n : ℕ) → IsShort n → number_of most_u32 (decimal n) ≡ Ok n
 short_again n small = number_again most_u32 n (omega arith) (omega arith)
 
+-- so is one of 64 bits
 pub long_again : (n : ℕ) → IsLong n → number_of most_u64 (decimal n) ≡ Ok n
 long_again n small = number_again most_u64 n (omega arith) small
 
@@ -57,6 +59,7 @@ digits_no_dash (c ∷ cs) h = let first = and_first (is_ascii_digit c) (list_all
 decimal_no_dash : (n : ℕ) → n < 2 ^ 64 → is (codes "-") (decimal n) ≡ false
 decimal_no_dash n small = digits_no_dash (decimal n) (digits_decimal n small)
 
+-- a printed stamp is read as that stamp, and the sign for none as none
 pub stamp_again : (stamp : Option ℕ) → IfSome stamp IsLong → optional_of most_u64 (stamp_text stamp) ≡ Ok stamp
 stamp_again None fits = refl
 stamp_again (Some n) fits = rw (decimal_no_dash n fits, long_again n fits) refl
@@ -70,12 +73,14 @@ pub stamp_no_end : (stamp : Option ℕ) → IfSome stamp IsLong → is (codes "e
 stamp_no_end None fits = refl
 stamp_no_end (Some n) fits = digits_no_end (decimal n) (digits_decimal n fits)
 
+-- the same of the enclave that owns a frame, or none
 pub owner_again : (owner : Option ℕ) → IfSome owner IsShort → optional_of most_u32 (owner_text owner) ≡ Ok owner
 owner_again None fits = refl
 owner_again (Some n) fits = let small : n < 2 ^ 64 = omega (arith, fits) in rw (decimal_no_dash n small, short_again n fits) refl
 
 -- ---- names and bytes
 
+-- a name is read as that name
 pub name_again : (name : List ℕ) → IsName name → name_of name ≡ Ok name
 name_again name is = rw is refl
 
@@ -99,9 +104,11 @@ unfolding hex_bytes
 hex_again [] small = refl
 hex_again (b ∷ bs) small = hex_bytes_by (encode_lower (b ∷ bs)) (b ∷ bs) (hex_no_dash b bs) (omega (arith, length-encode_with lower_digits (b ∷ bs))) (decode_of-encode_lower (b ∷ bs) small)
 
+-- bytes that are printed in hex are read as these bytes
 pub bytes_again : (bytes : List ℕ) → IsBytes bytes → bytes_of (hex_text bytes) ≡ Ok bytes
 bytes_again bytes small = rw (hex_again bytes small) refl
 
+-- so is a block
 pub block_again : (block : List ℕ) → IsBlock block → block_of (hex_text block) ≡ Ok block
 block_again block is = rw (bytes_again block is.0, is.1) refl
 
@@ -110,6 +117,7 @@ block_again block is = rw (bytes_again block is.0, is.1) refl
 caller_word : (n : ℕ) → 1 ≤ n → n ≤ 8 → actor_of (99 ∷ (48 + n) ∷ []) ≡ Some (Caller n)
 caller_word n low high = grind (arith, nat_tests)
 
+-- a printed actor is read as that actor
 pub who_again : (actor : Actor) → IsWho actor → who_of (actor_text actor) ≡ Ok actor
 who_again (Caller n) is = rw (decimal_digit n (omega (arith, is.1)), caller_word n is.0 is.1) refl
 who_again Swapper is = refl
@@ -126,6 +134,7 @@ split_colon frame word frame_fits word_fits =
     slice_split_at is_colon (decimal frame) 58 (decimal word) (digits_no_colon (decimal frame) (digits_decimal frame frame_fits)) refl
     ∙ ap (λ parts. decimal frame ∷ parts) (slice_split_none is_colon (decimal word) (digits_no_colon (decimal word) (digits_decimal word word_fits)))
 
+-- a printed frame with its word is read as these two
 pub looked_again : (looked : Looked) → IsLooked looked → looked_of (looked_text looked) ≡ Ok looked
 unfolding two
 looked_again looked is =

@@ -103,6 +103,7 @@ lines_again kind number (line ∷ next ∷ lines) is =
 le_true : {a b : ℕ} → a ≤ b → nat_le a b ≡ true
 le_true {a} {b} h = grind (arith, nat_tests)
 
+-- a printed log is read as the lines that were printed, whatever the number of the first
 pub log_again : ReadsWhatIsPrinted
 unfolding log_of
 log_again kind first lines is few = rw (le_true few) (lines_again kind first lines is)

@@ -68,6 +68,7 @@ module _ (word : List ℕ) (args : List (List ℕ)) where
 abbrev pub IsAnswer : Kind → Answer → Type 0
 IsAnswer kind reply = HasParts reply × (is_reply kind reply ≡ true)
 
+-- a reply that is read is one that this kind of log has, and its numbers and bytes are in their limits
 pub answer_is : (kind : Kind) (words : List (List ℕ)) → IfOk (answer_in kind words) (IsAnswer kind)
 answer_is kind words = step HasParts (IsAnswer kind) (with_one_and_more answer_of words) _ (any_step HasParts (one_and_more words) (λ x. answer_of x.0 x.1) (λ x. answer_of_is x.0 x.1))
     (λ reply has. tested (IsAnswer kind) (is_reply kind reply) reply (λ is. (has, is)))

@@ -25,6 +25,7 @@ name_and_number_is args = any_step IsPair (two args) _ (λ x.
     step IsName IsPair (name_of x.0) _ (name_is x.0) (λ name named.
     step IsShort IsPair (number_of most_u32 x.1) _ (short_is x.1) (λ n fits. (named, fits))))
 
+-- a number that is read alone has 32 bits
 pub number_alone_is : (args : List (List ℕ)) → IfOk (number_alone args) IsShort
 number_alone_is args = any_step IsShort (one args) (number_of most_u32) short_is
 
@@ -87,6 +88,7 @@ module _ (verb : List ℕ) (args : List (List ℕ)) where
 abbrev pub IsCommand : Kind → Word → Type 0
 IsCommand kind command = HasFields command × (is_command kind command ≡ true)
 
+-- a command that is read is one that this kind of log has, and its numbers, names and bytes are in their limits
 pub command_is : (kind : Kind) (words : List (List ℕ)) → IfOk (command_in kind words) (IsCommand kind)
 command_is kind words = step HasFields (IsCommand kind) (with_one_and_more command_of words) _ (any_step HasFields (one_and_more words) (λ x. command_of x.0 x.1) (λ x. command_of_is x.0 x.1))
     (λ command has. tested (IsCommand kind) (is_command kind command) command (λ is. (has, is)))

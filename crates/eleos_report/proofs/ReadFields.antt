@@ -49,12 +49,15 @@ short_fits text = tested IsShort (is_numeral text && is_up_to most_u32 text) (nu
 long_fits : (text : List ℕ) → IfOk (number_of most_u64 text) IsLong
 long_fits text = tested IsLong (is_numeral text && is_up_to most_u64 text) (number text) (λ h. let le = le_from (number text) most_u64 (and_second (is_numeral text) (is_up_to most_u64 text) h) in omega (arith, le))
 
+-- what is read as a number of 32 bits is one
 pub short_is : (text : List ℕ) → IfOk (number_of most_u32 text) IsShort
 short_is = short_fits
 
+-- what is read as a number of 64 bits is one
 pub long_is : (text : List ℕ) → IfOk (number_of most_u64 text) IsLong
 long_is = long_fits
 
+-- what is read as a name is one
 pub name_is : (text : List ℕ) → IfOk (name_of text) IsName
 name_is text = tested IsName (is_name text) text (λ h. h)
 
@@ -79,6 +82,7 @@ bytes_in_fits : (o : Option (List ℕ)) → ((bytes : List ℕ) → o ≡ Some b
 bytes_in_fits (Some bytes) h = h bytes refl
 bytes_in_fits None h = tt
 
+-- what is read as hex is bytes
 pub bytes_are : (text : List ℕ) → IfOk (bytes_of text) IsBytes
 bytes_are text = by (hex_bytes text) (bytes_in_fits (hex_bytes text) (hex_fits text)) where
   by : (o : Option (List ℕ)) → IfSome o IsBytes → IfOk (formed (is_some o) (unwrap_or o [])) IsBytes
@@ -88,6 +92,7 @@ bytes_are text = by (hex_bytes text) (bytes_in_fits (hex_bytes text) (hex_fits t
 eq_from : (a b : ℕ) → eqb a b ≡ true → a ≡ b
 eq_from a b h = grind (arith, nat_tests)
 
+-- what is read as a block is bytes, as many as a block has
 pub block_is : (text : List ℕ) → IfOk (block_of text) IsBlock
 block_is text = step IsBytes IsBlock (bytes_of text) (λ bytes. formed (eqb (length bytes) block_bytes) bytes) (bytes_are text)
     (λ bytes are. tested IsBlock (eqb (length bytes) block_bytes) bytes (λ h. (are, eq_from (length bytes) block_bytes h)))
@@ -95,9 +100,11 @@ block_is text = step IsBytes IsBlock (bytes_of text) (λ bytes. formed (eqb (len
 optional_fits : (P : ℕ → Type 0) (most : ℕ) (text : List ℕ) → IfOk (number_of most text) P → IfOk (optional_of most text) (λ o. IfSome o P)
 optional_fits P most text fits = either (λ o. IfSome o P) (is (codes "-") text) (Ok None) (number_of most text >>= λ n. Ok (Some n)) tt (step P (λ o. IfSome o P) (number_of most text) (λ n. Ok (Some n)) fits (λ n p. p))
 
+-- the owner of a frame that is read, where there is one, is a number of 32 bits
 pub owner_is : (text : List ℕ) → IfOk (optional_of most_u32 text) (λ o. IfSome o IsShort)
 owner_is text = optional_fits IsShort most_u32 text (short_fits text)
 
+-- a stamp that is read, where there is one, is a number of 64 bits
 pub stamp_is : (text : List ℕ) → IfOk (optional_of most_u64 text) (λ o. IfSome o IsLong)
 stamp_is text = optional_fits IsLong most_u64 text (long_fits text)
 
@@ -114,6 +121,7 @@ either_some : {A : Type 0} (P : A → Type 0) (b : Bool) (x y : Option A) → (b
 either_some P true x y p q = p refl
 either_some P false x y p q = q
 
+-- an actor that is read is one of the callers 1 to 8, or another actor
 pub who_is : (text : List ℕ) → IfOk (who_of text) IsWho
 who_is text = who_by (actor_of text)
     (either_some IsWho (is_caller_word text) (Some (Caller (slice_index text 1 - 48))) _ (λ h. caller_by (eqb (length text) 2) (eqb (slice_index text 0) 99) (slice_index text 1) h)
@@ -121,6 +129,7 @@ who_is text = who_by (actor_of text)
     (either_some IsWho (is (codes "b") text) (Some Balloon) _ (λ h. tt)
     (either_some IsWho (is (codes "h") text) (Some Host) None (λ h. tt) tt))))
 
+-- a frame that is read is a number of 32 bits, and its word one of 64
 pub looked_is : (text : List ℕ) → IfOk (looked_of text) IsLooked
 looked_is text = any_step IsLooked (two (slice_split is_colon text)) _ (λ x.
     step IsShort IsLooked (number_of most_u32 x.0) _ (short_fits x.0) (λ frame frame_fits.

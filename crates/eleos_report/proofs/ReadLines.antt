@@ -44,6 +44,7 @@ end_is kind words = any_step (IsLine kind) (one words) _ (λ n. step IsLong (IsL
 line_is : (kind : Kind) (words : List (List ℕ)) → IfOk (line_of kind words) (IsLine kind)
 line_is kind words = any_step (IsLine kind) (one_and_more words) _ (λ x. either (IsLine kind) (is (codes "end") x.0) (end_of x.1) (said_of kind x.0 x.1) (end_is kind x.1) (said_is kind x.0 x.1))
 
+-- what holds of a value that was read holds still where a refusal gets the number of its line
 pub numbered : {A : Type 0} (P : A → Type 0) (number : ℕ) (r : Result A Why) → IfOk r P → IfOk (at_line number r) P
 numbered P number (Ok x) p = p
 numbered P number (Err why) p = tt

@@ -16,6 +16,7 @@ join-spaced word (next ∷ words) = ap (λ rest. word ++ 32 ∷ rest) (join-spac
 
 -- a line in the order in which it is printed
 pub said_line : (out stamp actor : List ℕ) (command reply : List (List ℕ))
-    → ((out ++ (stamp ++ 32 ∷ actor ++ spaced command)) ++ (32 ∷ 61 ∷ [])) ++ spaced reply ≡ out ++ join_with_byte 32 (stamp ∷ actor ∷ command ++ (61 ∷ []) ∷ reply)
+    → ((out ++ (stamp ++ 32 ∷ actor ++ spaced command ++ (32 ∷ 61 ∷ []))) ++ spaced reply) ++ 10 ∷ []
+    ≡ out ++ (join_with_byte 32 (stamp ∷ actor ∷ command ++ (61 ∷ []) ∷ reply) ++ 10 ∷ [])
 said_line out stamp actor command reply =
     rw (join-spaced stamp (actor ∷ command ++ (61 ∷ []) ∷ reply), flat_map-append (λ word. 32 ∷ word) command ((61 ∷ []) ∷ reply)) (simp append_assoc)

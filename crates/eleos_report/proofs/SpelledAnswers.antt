@@ -112,6 +112,7 @@ module _ (word : List ℕ) (args : List (List ℕ)) where
       (when AreParts (is (codes "notyours") word) _ _ (verb_step answer_fields number_word (codes "notyours") word args (number_alone args) (λ n. NotYours n) refl (number_alone_spelled args) (λ n. refl))
       (when AreParts (is (codes "worn") word) _ (other_answer_of word args) (verb_step answer_fields number_word (codes "worn") word args (number_alone args) (λ n. Worn n) refl (number_alone_spelled args) (λ n. refl)) other_answer_spelled)))
 
+-- the words that are read as a reply are those that it is printed with, but for capitals
 pub answer_spelled : (kind : Kind) (words : List (List ℕ)) → IfOk (answer_in kind words) (λ a. lowers words ≡ answer_fields a)
 answer_spelled kind words = step (λ a. lowers words ≡ answer_fields a) (λ a. lowers words ≡ answer_fields a) (with_one_and_more answer_of words) (λ a. formed (is_reply kind a) a)
     (step (λ x. words ≡ x.0 ∷ x.1) (λ a. lowers words ≡ answer_fields a) (one_and_more words) (λ x. answer_of x.0 x.1) (one_and_more_are words) (λ x are.

@@ -21,6 +21,7 @@ use Rattle.eleos_report.proofs.SpelledFields.{when, weaker, verb_is, one_is, two
 abbrev pub lowers : List (List ℕ) → List (List ℕ)
 lowers words = map lower words
 
+-- two lists with the same first word and the same others are the same
 pub both : (a b : List ℕ) (xs ys : List (List ℕ)) → a ≡ b → xs ≡ ys → a ∷ xs ≡ b ∷ ys
 both a b xs ys same all = rw (same, all) refl
 
@@ -37,6 +38,7 @@ pub verb_all : {B : Type 0} (fields_of : B → List (List ℕ)) (word verb : Lis
 verb_all fields_of word verb args (Ok b) small are h = both (lower verb) word (lowers args) (lowers args) (verb_is word verb small h) refl ∙ are
 verb_all fields_of word verb args (Err why) small are h = tt
 
+-- this word and no other
 abbrev pub alone : List ℕ → List (List ℕ)
 alone word = word ∷ []
 
@@ -50,6 +52,7 @@ name_and_number_spelled args = step (λ x. args ≡ x.0 ∷ x.1 ∷ []) (λ x. l
     step (λ n. lower x.1 ≡ decimal n) (λ x. lowers args ≡ x.0 ∷ decimal x.1 ∷ []) (number_of most_u32 x.1) _ (short_spelled x.1) (λ n n_same.
     ap lowers are ∙ (rw (name_same, n_same) refl))))
 
+-- a number that is read alone is spelled as it is printed
 pub number_alone_spelled : (args : List (List ℕ)) → IfOk (number_alone args) (λ n. lowers args ≡ decimal n ∷ [])
 number_alone_spelled args = step (λ a. args ≡ a ∷ []) (λ n. lowers args ≡ decimal n ∷ []) (one args) (number_of most_u32) (one_is args) (λ a are.
     weaker (λ n. lower a ≡ decimal n) (λ n. lowers args ≡ decimal n ∷ []) (number_of most_u32 a) (short_spelled a) (λ n same. ap lowers are ∙ ap alone same))
@@ -120,6 +123,7 @@ module _ (verb : List ℕ) (args : List (List ℕ)) where
       (when AreFields (is (codes "read") verb) (read_of args) _ (verb_all fields (codes "read") verb args (read_of args) refl (read_spelled args))
       (when AreFields (is (codes "write") verb) (write_of args) (frame_command_of verb args) (verb_all fields (codes "write") verb args (write_of args) refl (write_spelled args)) frame_command_spelled))))
 
+-- the words that are read as a command are those that it is printed with, but for capitals
 pub command_spelled : (kind : Kind) (words : List (List ℕ)) → IfOk (command_in kind words) (λ c. lowers words ≡ fields c)
 command_spelled kind words = step (λ c. lowers words ≡ fields c) (λ c. lowers words ≡ fields c) (with_one_and_more command_of words) (λ c. formed (is_command kind c) c)
     (step (λ x. words ≡ x.0 ∷ x.1) (λ c. lowers words ≡ fields c) (one_and_more words) (λ x. command_of x.0 x.1) (one_and_more_are words) (λ x are.

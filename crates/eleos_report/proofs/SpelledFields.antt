@@ -57,12 +57,14 @@ verb_is word verb small h = ap lower (equal verb word h) ∙ small
 -- ---- words by their number
 
 module _ {A : Type 0} where
+  -- where one word is read, there is no other
   pub one_is : (words : List A) → IfOk (one words) (λ a. words ≡ a ∷ [])
   unfolding one
   one_is [] = tt
   one_is (a ∷ []) = refl
   one_is (a ∷ b ∷ _) = tt
 
+  -- where two words are read, there is no other
   pub two_are : (words : List A) → IfOk (two words) (λ x. words ≡ x.0 ∷ x.1 ∷ [])
   unfolding two
   two_are [] = tt
@@ -70,6 +72,7 @@ module _ {A : Type 0} where
   two_are (a ∷ b ∷ []) = refl
   two_are (a ∷ b ∷ c ∷ _) = tt
 
+  -- where three words are read, there is no other
   pub three_are : (words : List A) → IfOk (three words) (λ x. words ≡ x.0 ∷ x.1 ∷ x.2 ∷ [])
   unfolding three
   three_are [] = tt
@@ -78,6 +81,7 @@ module _ {A : Type 0} where
   three_are (a ∷ b ∷ c ∷ []) = refl
   three_are (a ∷ b ∷ c ∷ d ∷ _) = tt
 
+  -- where a first word and more are read, they are all the words, in order
   pub one_and_more_are : (words : List A) → IfOk (one_and_more words) (λ x. words ≡ x.0 ∷ x.1)
   unfolding one_and_more
   one_and_more_are [] = tt
@@ -112,11 +116,13 @@ numeral_by text numeral small =
     no_zero : (n c : ℕ) → (eqb n 1 || not (eqb c 48)) ≡ true → c ≡ 48 → n ≡ 1
     no_zero n c h is_zero = grind (arith, nat_tests)
 
+-- what is read as a number of 32 bits is spelled as that number is printed
 pub short_spelled : (text : List ℕ) → IfOk (number_of most_u32 text) (λ n. lower text ≡ decimal n)
 short_spelled text = tested (λ n. lower text ≡ decimal n) (is_numeral text && is_up_to most_u32 text) (number text) (λ h.
     let le = le_from (number text) most_u32 (and_second (is_numeral text) (is_up_to most_u32 text) h) in
     numeral_by text (and_first (is_numeral text) (is_up_to most_u32 text) h) (omega (arith, le)))
 
+-- so is one of 64 bits
 pub long_spelled : (text : List ℕ) → IfOk (number_of most_u64 text) (λ n. lower text ≡ decimal n)
 long_spelled text = tested (λ n. lower text ≡ decimal n) (is_numeral text && is_up_to most_u64 text) (number text) (λ h.
     let le = le_from (number text) most_u64 (and_second (is_numeral text) (is_up_to most_u64 text) h) in
@@ -125,13 +131,16 @@ long_spelled text = tested (λ n. lower text ≡ decimal n) (is_numeral text && 
 name_same : (name : List ℕ) → is_name name ≡ true → lower name ≡ name
 name_same name h = same_by is_name_char (λ c d. grind (arith, nat_tests)) name (and_second _ (list_all is_name_char name) h)
 
+-- what is read as a name has no capitals, and is spelled as it is printed
 pub name_spelled : (text : List ℕ) → IfOk (name_of text) (λ name. lower text ≡ name)
 name_spelled text = tested (λ name. lower text ≡ name) (is_name text) text (name_same text)
 
+-- what is read as a stamp, or as none, is spelled as it is printed
 pub stamp_spelled : (text : List ℕ) → IfOk (optional_of most_u64 text) (λ o. lower text ≡ stamp_text o)
 stamp_spelled text = when (λ o. lower text ≡ stamp_text o) (is (codes "-") text) (Ok None) _ (verb_is (codes "-") text refl)
     (step (λ n. lower text ≡ decimal n) (λ o. lower text ≡ stamp_text o) (number_of most_u64 text) (λ n. Ok (Some n)) (long_spelled text) (λ n is. is))
 
+-- so is the owner of a frame, or none
 pub owner_spelled : (text : List ℕ) → IfOk (optional_of most_u32 text) (λ o. lower text ≡ owner_text o)
 owner_spelled text = when (λ o. lower text ≡ owner_text o) (is (codes "-") text) (Ok None) _ (verb_is (codes "-") text refl)
     (step (λ n. lower text ≡ decimal n) (λ o. lower text ≡ owner_text o) (number_of most_u32 text) (λ n. Ok (Some n)) (short_spelled text) (λ n is. is))
@@ -159,12 +168,14 @@ hex_spelled text bytes e = by (bytes_eq text (codes "-")) refl (eqb (length text
     same : ◌≡◌ {A = Option (List ℕ)} (Some found) (Some bytes) → found ≡ bytes
     same e = cc
 
+-- bytes that are read are spelled as they are printed, but that digits of hex may be capitals
 pub bytes_spelled : (text : List ℕ) → IfOk (bytes_of text) (λ bytes. lower text ≡ hex_text bytes)
 bytes_spelled text = by (hex_bytes text) (hex_spelled text) where
   by : (o : Option (List ℕ)) → ((bytes : List ℕ) → o ≡ Some bytes → lower text ≡ hex_text bytes) → IfOk (formed (is_some o) (unwrap_or o [])) (λ bytes. lower text ≡ hex_text bytes)
   by (Some bytes) h = h bytes refl
   by None h = tt
 
+-- so is a block
 pub block_spelled : (text : List ℕ) → IfOk (block_of text) (λ block. lower text ≡ hex_text block)
 block_spelled text = step (λ block. lower text ≡ hex_text block) (λ block. lower text ≡ hex_text block) (bytes_of text) (λ bytes. formed (eqb (length bytes) block_bytes) bytes) (bytes_spelled text)
     (λ bytes same. tested (λ block. lower text ≡ hex_text block) (eqb (length bytes) block_bytes) bytes (λ h. same))
@@ -188,6 +199,7 @@ caller_spelled (a ∷ b ∷ []) h =
     digit_same c low high = grind (arith, nat_tests)
 caller_spelled (a ∷ b ∷ c ∷ cs) h = absurd (grind (arith, nat_tests))
 
+-- an actor that is read is spelled as it is printed
 pub who_spelled : (text : List ℕ) → IfOk (who_of text) (λ who. lower text ≡ actor_text who)
 who_spelled text = by (actor_of text)
     (when_some (is_caller_word text) (Some (Caller (slice_index text 1 - 48))) _ (caller_spelled text)
@@ -209,6 +221,7 @@ lower-join c [] same = refl
 lower-join c (word ∷ []) same = refl
 lower-join c (word ∷ next ∷ words) same = map-append to_ascii_lowercase word (c ∷ join_with_byte c (next ∷ words)) ∙ (rw (same, lower-join c (next ∷ words) same) refl)
 
+-- so are a frame and its word
 pub looked_spelled : (text : List ℕ) → IfOk (looked_of text) (λ looked. lower text ≡ looked_text looked)
 looked_spelled text = step (λ x. slice_split is_colon text ≡ x.0 ∷ x.1 ∷ []) (λ looked. lower text ≡ looked_text looked) (two (slice_split is_colon text)) _ (two_are (slice_split is_colon text)) (λ x parts.
     step (λ n. lower x.0 ≡ decimal n) (λ looked. lower text ≡ looked_text looked) (number_of most_u32 x.0) _ (short_spelled x.0) (λ frame frame_is.

@@ -14,6 +14,7 @@ use Rattle.eleos_report.proofs.Plain.{and_first, and_second}
 abbrev pub lower : List ℕ → List ℕ
 lower text = map to_ascii_lowercase text
 
+-- numbers that the test finds equal are equal
 pub eq_from : (a b : ℕ) → eqb a b ≡ true → a ≡ b
 eq_from a b h = grind (arith, nat_tests)
 
@@ -78,6 +79,7 @@ pairs_are i (a ∷ b ∷ rest) = hex_step (AreOf a b) (λ bytes. lower (a ∷ b 
     hex_step (λ bytes. lower rest ≡ encode_lower bytes) (λ bytes. lower (a ∷ b ∷ rest) ≡ encode_lower bytes) (decode_pairs (i + 2) rest) _ (pairs_are (i + 2) rest) (λ bytes same.
     rw (digits.0, digits.1, same) refl))
 
+-- a text that decodes is the hex of its bytes, but that digits may be capitals
 pub decoded_is : (text : List ℕ) → IfOk (decode_of text) (λ bytes. lower text ≡ encode_lower bytes)
 decoded_is text = by (eqb (length text % 2) 1) where
   by : (b : Bool) → IfOk (cond b (Err OddLength) (decode_pairs 0 text)) (λ bytes. lower text ≡ encode_lower bytes)

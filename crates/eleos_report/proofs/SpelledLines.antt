@@ -108,6 +108,7 @@ log_spelled kind first text = either (λ lines. lower text ≡ log_text lines) (
     (weaker (λ lines. lowers (slice_split is_newline text) ≡ map printed lines ++ [] ∷ []) (λ lines. lower text ≡ log_text lines) (lines_of kind first (slice_split is_newline text)) (lines_spelled kind first (slice_split is_newline text)) (λ lines same.
     ap lower (sym (join_with_byte-slice_split 10 text)) ∙ lower-join 10 (slice_split is_newline text) refl ∙ ap (join_with_byte 10) same ∙ join_lines lines)) tt
 
+-- what is read is a log, and is spelled as it is printed, but that digits of hex may be capitals
 pub only_logs : ReadsOnlyLogs
 only_logs kind first text lines e =
     let is = log_is kind first text in

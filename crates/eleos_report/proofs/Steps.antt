@@ -17,6 +17,7 @@ use Rattle.eleos_report.specs.Reading.{line_of, lines_of}
 abbrev pub with_front : List LogLine → Result (List LogLine) Bad → Result (List LogLine) Bad
 with_front front lines = lines >>= λ others. Ok (front ++ others)
 
+-- these lines in front, and behind them one more, are in front together
 pub with_front-push : (front : List LogLine) (line : LogLine) (lines : Result (List LogLine) Bad) → with_front front (with_front (line ∷ []) lines) ≡ with_front (front ++ line ∷ []) lines
 with_front-push front line (Ok lines) = ap Ok (sym (append_assoc front (line ∷ []) lines))
 with_front-push front line (Err bad) = refl

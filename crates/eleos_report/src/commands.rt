@@ -2,7 +2,8 @@
 ghost use Rattle.std.specs.Prelude.{◌≡◌, ℕ, List, map};
 ghost use Rattle.eleos_texts.specs.Reasons.{Reads};
 ghost use Rattle.eleos_report.specs.Commands.{is_command, is_move, name_alone, name_and_number};
-ghost use Rattle.eleos_report.specs.Commands.{number_alone, two_numbers, read_of, write_of, move_of};
+ghost use Rattle.eleos_report.specs.Commands.{number_alone, two_numbers, read_of, write_of};
+ghost use Rattle.eleos_report.specs.Commands.{move_of};
 ghost use Rattle.eleos_report.specs.Commands.{command_in, command_of, frame_command_of};
 ghost use Rattle.eleos_report.specs.Commands.{host_command_of};
 

@@ -1,4 +1,5 @@
-// The fields of a line: numbers, names, bytes and actors. A line that lacks one of them is of no form.
+// The fields of a line: numbers, names, bytes and actors. A line that lacks one of them is of no
+// form.
 ghost use Rattle.std.specs.Prelude.{◌≡◌, ℕ, List, IfOk, map};
 ghost use Rattle.std.specs.List.{slice_split};
 ghost use Rattle.eleos_trace.specs.Actors.{actor_of, is_caller_word};

@@ -6,7 +6,8 @@ use eleos_trace::{Actor, Word};
 /// A line of a log.
 #[derive(Debug, Drop)]
 pub enum LogLine {
-    /// What a command, or a step of the machine on its way, came to. The stamp is the place of its entry
+    /// What a command, or a step of the machine on its way, came to. The stamp is the place of its
+    /// entry
     /// in the history, from 0; a line that is no entry has none.
     Said {
         stamp: Option<u64>,

@@ -17,14 +17,12 @@ use crate::replies::answer_in;
 use eleos_base::List;
 use eleos_texts::counts::{one, one_and_more};
 use eleos_texts::splits::{first_line, words_of};
-use eleos_texts::{LineRefused, TraceRefused, Why, at_line, nothing_after, refused};
+use eleos_texts::{LineRefused, MOST_TEXT, TraceRefused, Why, at_line, nothing_after, refused};
 use eleos_trace::Kind;
 use std::alloc::Global;
 
-/// Bytes of a text.
-const MOST_TEXT: usize = 16_777_216;
-
-/// The lines of the log of a trace of this kind, or its first bad line, where the first line has this number.
+/// The lines of the log of a trace of this kind, or its first bad line, where the first line has
+/// this number.
 #[tactic(auto, unfolding(crate::specs::Reading::log_of))]
 pub fn read_log(
     alloc: Global,
@@ -36,7 +34,7 @@ pub fn read_log(
     ensures exact { Gives (λ lines. lines) result (log_of kind first bytes.now) }
     ensures good { IfOk result (λ lines. IsLog kind lines) }
 {
-    if bytes.len() > MOST_TEXT {
+    if bytes.len() > MOST_TEXT as usize {
         return Err(TraceRefused::Bad {
             line: 0,
             why: Why::TooLarge,

@@ -1,14 +1,13 @@
 // The printed spelling of replies and of whole lines.
-ghost use Rattle.std.specs.Prelude.{◌≡◌, ◌++◌, ◌∷◌, IfOk, OnOk, Some, map};
+ghost use Rattle.std.specs.Prelude.{◌≡◌, ◌++◌, ◌∷◌, IfOk, OnOk, Some, codes, map};
 ghost use Rattle.eleos_report.specs.declared.answer.Answer.TheVariants.{Put};
 ghost use Rattle.eleos_report.specs.declared.line.LogLine.TheVariants.{End, Said};
 ghost use Rattle.std.specs.String.{string_bytes};
 ghost use Rattle.eleos_trace.specs.declared.trace.Kind.{Kind};
 ghost use Rattle.eleos_report.specs.Grammar.{IsLine};
-ghost use Rattle.std.specs.List.{join_with_byte};
 ghost use Rattle.eleos_trace.specs.Spelling.{actor_text, fields};
 ghost use Rattle.eleos_report.specs.Log.{answer_fields, line_text, looked_text, part_text};
-ghost use Rattle.eleos_report.specs.Log.{block_fields, line_fields, spaced, stamp_text};
+ghost use Rattle.eleos_report.specs.Log.{block_fields, spaced, stamp_text};
 
 use crate::words::{push_actor, push_command};
 use crate::{Answer, Block, LogLine};
@@ -56,7 +55,8 @@ pub fn push_said(
     ensures { OnOk result (out.new.items
         ≡ out.old.items ++ line_text (Said stamp actor command.now reply.now)) }
 {
-    push_said_words(alloc, out, stamp, actor, command, reply)?;
+    push_asked(alloc, out, stamp, actor, command)?;
+    push_answer(alloc, out, reply)?;
     push(out, b"\n")
 }
 
@@ -72,7 +72,8 @@ pub fn push_put(
     ensures { OnOk result (out.new.items
         ≡ out.old.items ++ line_text (Said (Some stamp) actor command.now (Put count))) }
 {
-    push_put_words(alloc, out, stamp, actor, command, count)?;
+    push_asked(alloc, out, Some(stamp), actor, command)?;
+    push_put_answer(alloc, out, count)?;
     push(out, b"\n")
 }
 
@@ -85,23 +86,6 @@ pub fn push_end(alloc: Global, out: &mut Vec<u8>, count: u64) -> Result<(), NoMe
     push(out, b"\n")
 }
 
-/// The words of the line of an evict, with single blanks between.
-fn push_put_words(
-    alloc: Global,
-    out: &mut Vec<u8>,
-    stamp: u64,
-    actor: Actor,
-    command: &Word,
-    count: u64,
-) -> Result<(), NoMemory>
-    ensures { OnOk result (out.new.items
-        ≡ out.old.items ++ join_with_byte 32 (line_fields (Said (Some stamp) actor command.now (Put count)))) }
-{
-    push_command_line(alloc, out, Some(stamp), actor, command)?;
-    push(out, b" =")?;
-    push_put_answer(alloc, out, count)
-}
-
 /// `put N`, with a blank before each.
 fn push_put_answer(alloc: Global, out: &mut Vec<u8>, count: u64) -> Result<(), NoMemory>
     ensures { OnOk result (out.new.items ≡ out.old.items ++ spaced (answer_fields (Put count))) }
@@ -110,38 +94,23 @@ fn push_put_answer(alloc: Global, out: &mut Vec<u8>, count: u64) -> Result<(), N
     push_number(alloc, out, count)
 }
 
-/// The words of the line of a command, with single blanks between.
-fn push_said_words(
-    alloc: Global,
-    out: &mut Vec<u8>,
-    stamp: Option<u64>,
-    actor: Actor,
-    command: &Word,
-    reply: &Answer,
-) -> Result<(), NoMemory>
-    ensures { OnOk result (out.new.items
-        ≡ out.old.items ++ join_with_byte 32 (line_fields (Said stamp actor command.now reply.now))) }
-{
-    push_command_line(alloc, out, stamp, actor, command)?;
-    push(out, b" =")?;
-    push_answer(alloc, out, reply)
-}
-
-/// A stamp, an actor and a command.
-fn push_command_line(
+/// A stamp, an actor, a command and `=`, before a reply.
+fn push_asked(
     alloc: Global,
     out: &mut Vec<u8>,
     stamp: Option<u64>,
     actor: Actor,
     command: &Word,
 ) -> Result<(), NoMemory>
-    ensures { OnOk result (out.new.items ≡ out.old.items
-        ++ (stamp_text stamp ++ 32 ∷ actor_text actor ++ spaced (fields command.now))) }
+    ensures { OnOk result
+        (out.new.items ≡ out.old.items ++ (stamp_text stamp ++ 32 ∷ actor_text actor
+        ++ spaced (fields command.now) ++ codes " =")) }
 {
     push_stamp(alloc, out, stamp)?;
     push(out, b" ")?;
     push_actor(alloc, out, actor)?;
-    push_command(alloc, out, command)
+    push_command(alloc, out, command)?;
+    push(out, b" =")
 }
 
 fn push_stamp(alloc: Global, out: &mut Vec<u8>, stamp: Option<u64>) -> Result<(), NoMemory>

@@ -19,6 +19,7 @@ pub ended-empty_text : (line : ℕ) (after : List ℕ) → eqb (length after) 0 
 ended-empty_text line [] empty = refl
 ended-empty_text line (c ∷ cs) empty = absurd (grind (arith, nat_tests))
 
+-- any byte behind the end is refused, at the line where it stands
 pub ended-more_text : (line : ℕ) (after : List ℕ) → eqb (length after) 0 ≡ false → ended line (slice_split is_newline after) ≡ Err (record { line = line; why = After })
 ended-more_text line [] more = cc
 ended-more_text line (c ∷ cs) more = ended-more line c cs

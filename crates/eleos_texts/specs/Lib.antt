@@ -1,3 +1,4 @@
 pub mod Fields
 pub mod Reasons
 pub mod Texts
+pub mod Heads

@@ -20,6 +20,7 @@ refusal (test ∷ tests) why = if test.0 then refusal tests why else Err test.1
 
 -- the next step, where the one before gave a value
 infixl 10 ◌>>=◌
+-- and where it was refused, that refusal
 abbrev pub ◌>>=◌ : {A B E : Type 0} → Result A E → (A → Result B E) → Result B E
 (Ok x) >>= f = f x
 (Err e) >>= f = Err e

@@ -8,6 +8,9 @@ ghost use Rattle.eleos_texts.specs.Texts.{ended};
 
 use crate::why::{TraceRefused, Why};
 
+/// Bytes of a text.
+pub const MOST_TEXT: u32 = 16_777_216;
+
 /// Whether the line ends the text.
 pub fn is_end(line: &[u8]) -> bool
     ensures { result ≡ bytes_eq line.now (codes "end") }

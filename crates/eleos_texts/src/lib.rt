@@ -5,9 +5,10 @@ pub mod counts;
 mod digits;
 mod ends;
 pub mod fields;
+pub mod heads;
 pub mod printing;
 pub mod splits;
 mod why;
 
-pub use ends::{is_end, nothing_after};
+pub use ends::{MOST_TEXT, is_end, nothing_after};
 pub use why::{Bad, LineRefused, TraceRefused, Why, at_line, refused};

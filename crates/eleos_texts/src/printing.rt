@@ -66,7 +66,8 @@ pub fn push_numbered(
     word: &[u8],
     number: u32,
 ) -> Result<(), NoMemory>
-    ensures { OnOk result (out.new.items ≡ out.old.items ++ (32 ∷ word.now ++ 32 ∷ decimal number)) }
+    ensures { OnOk result
+        (out.new.items ≡ out.old.items ++ (32 ∷ word.now ++ 32 ∷ decimal number)) }
 {
     push_field(out, word)?;
     push_number_field(alloc, out, number)

@@ -22,7 +22,8 @@ pub enum Why {
     Many,
     /// The actor is not declared, or may not give this command in this kind.
     Actor,
-    /// A number, a sum over the machine, the number of blocks, a key or the bytes of a write are outside their limits, or a page, frame or place is not in the machine.
+    /// A number, a sum over the machine, the number of blocks, a key or the bytes of a write are
+    /// outside their limits, or a page, frame or place is not in the machine.
     Range,
     /// The name or pointer is not bound, or is bound already; or a block of the enclave has it.
     Name,

@@ -20,8 +20,10 @@ use Rattle.eleos_texts.specs.declared.why.Why.TheVariants.{Form, Range, Name, En
 use Rattle.eleos_texts.specs.Fields.{number, is_up_to}
 use Rattle.eleos_texts.specs.Reasons.{four, six, eight}
 use Rattle.eleos_trace.specs.Machines.{pages_of, is_enclave}
-use Rattle.eleos_trace.specs.Homes.{most_pages, enclave_line, caller_line, AreGoodEnclaves, AreGoodCallers}
-use Rattle.eleos_trace.specs.Blocks.{has_space, may_own, block_line, EachFindsRoom, AreGoodBlocks}
+use Rattle.eleos_base.specs.Limits.{most_pages}
+use Rattle.eleos_trace.specs.Homes.{enclave_line, caller_line, AreGoodEnclaves, AreGoodCallers}
+use Rattle.eleos_base.specs.Rooms.{has_space}
+use Rattle.eleos_trace.specs.Blocks.{may_own, block_line, EachFindsRoom, AreGoodBlocks}
 use Rattle.eleos_trace.specs.WholeHeader.{plan_of, IsGoodHeader}
 use Rattle.eleos_trace.specs.Reading.{trace_with}
 use Rattle.eleos_trace.specs.declared.trace.Kind.{Kind}

@@ -16,19 +16,23 @@ use Rattle.eleos_trace.specs.Host.{last_bit}
 use Rattle.eleos_trace.specs.WholeHeader.{plan_of}
 use Rattle.eleos_trace.specs.Replays.{IsCallerOf, IsMove}
 
+-- where there is room for one more command, there are fewer than 100000
 pub room_of : (seen : Seen) → has_room seen ≡ true → seen.commands < 100000
 room_of seen has = grind (arith, nat_tests)
 
 -- ---- actors
 
+-- where two tests hold together, what each of them tells
 pub both : {P Q : Type 0} (p q : Bool) → (p ≡ true → P) → (q ≡ true → Q) → (p && q) ≡ true → P × Q
 both true true left right test = (left refl, right refl)
 both true false left right test = absurd cc
 both false q left right test = absurd cc
 
+-- a number that the test finds to be at most another is at most that
 pub le_of : (a b : ℕ) → nat_le a b ≡ true → a ≤ b
 le_of a b test = grind (arith, nat_tests)
 
+-- an actor that the test finds to be a caller is one of the plan's
 pub caller_of : (header : Header) (who : actors.Actor) → is_caller header.plan who ≡ true → IsCallerOf (plan_of header) who
 caller_of header (Caller n) test =
     let limits : (1 ≤ n) × (n ≤ length header.plan.callers) = both (nat_le 1 n) (nat_le n (length header.plan.callers)) (le_of _ _) (le_of _ _) test in
@@ -37,18 +41,21 @@ caller_of header Swapper test = absurd cc
 caller_of header Balloon test = absurd cc
 caller_of header Host test = absurd cc
 
+-- an actor that the test finds to be the swapper is the swapper
 pub swapper_of : (who : actors.Actor) → is_swapper who ≡ true → who ≡ Swapper
 swapper_of (Caller n) test = absurd cc
 swapper_of Swapper test = refl
 swapper_of Balloon test = absurd cc
 swapper_of Host test = absurd cc
 
+-- the same of the balloon
 pub balloon_actor : (who : actors.Actor) → is_balloon who ≡ true → who ≡ Balloon
 balloon_actor (Caller n) test = absurd cc
 balloon_actor Swapper test = absurd cc
 balloon_actor Balloon test = refl
 balloon_actor Host test = absurd cc
 
+-- the same of the host
 pub host_of : (who : actors.Actor) → is_host who ≡ true → who ≡ Host
 host_of (Caller n) test = absurd cc
 host_of Swapper test = absurd cc
@@ -57,15 +64,18 @@ host_of Host test = refl
 
 -- ---- numbers
 
+-- a number that is read as one below a limit is below it
 pub below_of : (limit : ℕ) (text : List ℕ) → is_below limit text ≡ true → number text < limit
 below_of limit text test = grind (arith, nat_tests)
 
 pub bit_of : (text : List ℕ) → is_up_to last_bit text ≡ true → number text < 8192
 bit_of text test = grind (arith, nat_tests)
 
+-- the same of two numbers, each with its limit
 pub two_below : (limit other : ℕ) (a b : List ℕ) → (is_below limit a && is_below other b) ≡ true → (number a < limit) × (number b < other)
 two_below limit other a b test = both (is_below limit a) (is_below other b) (below_of limit a) (below_of other b) test
 
+-- the same of a place below its limit and of a bit below 8192
 pub place_and_bit : (limit : ℕ) (a b : List ℕ) → (is_below limit a && is_up_to last_bit b) ≡ true → (number a < limit) × (number b < 8192)
 place_and_bit limit a b test = both (is_below limit a) (is_up_to last_bit b) (below_of limit a) (bit_of b) test
 

@@ -1,21 +1,19 @@
 -- The lines of header blocks.
-use Rattle.std.specs.Prelude.{◌≡◌, true, take, slice_get, ℕ, ◌≤◌, List, length, map, All, Bool, not, ◌==◌, ◌&&◌, ◌||◌, nat_le, nat_lt, is_some, [], ◌∷◌, Option, Some, None, Result, codes, if◌then◌else◌}
+use Rattle.std.specs.Prelude.{◌≡◌, true, take, slice_get, ℕ, ◌≤◌, List, length, map, All, Bool, not, ◌==◌, ◌&&◌, ◌||◌, nat_le, nat_lt, [], ◌∷◌, Option, Some, None, Result, codes, if◌then◌else◌}
 use Rattle.std.specs.List.{list_any}
 use Rattle.std.specs.Str.{bytes_eq}
 use Rattle.eleos_base.specs.declared.plan.BlockPlan.{BlockPlan}
 use Rattle.eleos_base.specs.declared.plan.Plan.{Plan}
-use Rattle.eleos_base.specs.Plans.{IsGoodBlock, enclave_of, sub_bytes}
-use Rattle.eleos_base.specs.Plain.{EnclaveMemory, opening, memory_of, lowest_run, subs_for, is_good_size}
+use Rattle.eleos_base.specs.Limits.{most_header_blocks}
+use Rattle.eleos_base.specs.Plans.{IsGoodBlock, enclave_of}
+use Rattle.eleos_base.specs.Plain.{is_good_size}
+use Rattle.eleos_base.specs.Rooms.{has_space}
 use Rattle.eleos_trace.specs.declared.header.NamedBlock.{NamedBlock}
 use Rattle.eleos_texts.specs.declared.why.Why.{Why}
 use Rattle.eleos_texts.specs.declared.why.Why.TheVariants.{Form, Range, Name, Enclave, BadSize, NoSpace, Owner}
 use Rattle.eleos_texts.specs.Fields.{is, is_numeral, number, is_name}
 use Rattle.eleos_texts.specs.Reasons.{unless, with_eight}
 use Rattle.eleos_trace.specs.Machines.{is_enclave}
-
--- header blocks of a machine
-abbrev pub most_blocks : ℕ
-most_blocks = 256
 
 -- a block of the enclave has the name
 abbrev pub has_name : List NamedBlock → ℕ → List ℕ → Bool
@@ -24,12 +22,6 @@ has_name blocks enclave name = list_any (λ named. named.block.enclave == enclav
 -- the machine with these header blocks
 abbrev pub with_blocks : Plan → List NamedBlock → Plan
 with_blocks plan blocks = record plan { blocks = map (λ named. named.block) blocks }
-
--- behind the header blocks of the plan, so many bytes find a free run in the enclave
-unfoldable pub has_space : Plan → ℕ → ℕ → Bool
-has_space plan enclave bytes =
-    let memory : EnclaveMemory = memory_of (opening plan) enclave in
-    is_some (lowest_run memory.blocks (length memory.texts) (subs_for (sub_bytes plan enclave) bytes))
 
 -- each header block of the plan finds room behind those before it
 abbrev pub EachFindsRoom : Plan → Type 0
@@ -49,7 +41,7 @@ abbrev pub block_line : Plan → List NamedBlock → List (List ℕ) → Result 
 block_line plan before = with_eight (λ first name second enclave third bytes fourth owner. unless (
     (is (codes "block") first && is_name name && is (codes "enclave") second && is_numeral enclave, Form)
     ∷ (is (codes "bytes") third && is_numeral bytes && is (codes "owner") fourth && is_numeral owner, Form)
-    ∷ (nat_lt (length before) most_blocks, Range)
+    ∷ (nat_lt (length before) most_header_blocks, Range)
     ∷ (not (has_name before (number enclave) name), Name)
     ∷ (is_enclave plan.enclaves enclave, Enclave)
     ∷ (is_good_size (number bytes), BadSize)
@@ -59,6 +51,6 @@ block_line plan before = with_eight (λ first name second enclave third bytes fo
 
 -- header blocks that the machine may have
 pub record AreGoodBlocks (plan : Plan) (blocks : List NamedBlock) : Type 0 where
-  pub few : length blocks ≤ 256
+  pub few : length blocks ≤ most_header_blocks
   pub each : All (λ named. IsGoodBlock plan named.block) blocks
   pub room : EachFindsRoom (with_blocks plan blocks)

@@ -1,32 +1,13 @@
 -- The lines of enclaves and of callers.
 use Rattle.std.specs.Prelude.{ℕ, ◌+◌, ◌≤◌, ◌<◌, List, length, All, ◌&&◌, nat_le, nat_lt, [], ◌∷◌, Result, codes}
 use Rattle.eleos_base.specs.declared.plan.EnclavePlan.{EnclavePlan}
+use Rattle.eleos_base.specs.Limits.{most_enclaves, most_pages, most_pages_in_all, most_frames, most_callers}
 use Rattle.eleos_base.specs.Plans.{AreGoodPages}
 use Rattle.eleos_texts.specs.declared.why.Why.{Why}
 use Rattle.eleos_texts.specs.declared.why.Why.TheVariants.{Form, Range, Enclave}
 use Rattle.eleos_texts.specs.Fields.{is, is_numeral, is_number, number, is_up_to}
 use Rattle.eleos_texts.specs.Reasons.{unless, with_four, with_six}
 use Rattle.eleos_trace.specs.Machines.{pages_of, frames_of, is_enclave}
-
--- enclaves of a machine
-abbrev pub most_enclaves : ℕ
-most_enclaves = 8
-
--- pages of an enclave
-abbrev pub most_pages : ℕ
-most_pages = 1024
-
--- pages of a machine
-abbrev pub most_pages_in_all : ℕ
-most_pages_in_all = 4096
-
--- frames of a machine, those of the pool included
-abbrev pub most_frames : ℕ
-most_frames = 512
-
--- callers of a machine
-abbrev pub most_callers : ℕ
-most_callers = 8
 
 -- `enclave E pages P frames F`, where E counts the enclaves before it
 abbrev pub enclave_line : List EnclavePlan → List (List ℕ) → Result EnclavePlan Why
@@ -47,12 +28,12 @@ caller_line enclaves before = with_four (λ first which second enclave. unless (
 
 -- enclaves that a machine may have, if they are some
 pub record AreGoodEnclaves (enclaves : List EnclavePlan) : Type 0 where
-  pub few : length enclaves ≤ 8
+  pub few : length enclaves ≤ most_enclaves
   pub pages : AreGoodPages enclaves
-  pub all_pages : pages_of enclaves ≤ 4096
-  pub frames : frames_of enclaves ≤ 512
+  pub all_pages : pages_of enclaves ≤ most_pages_in_all
+  pub frames : frames_of enclaves ≤ most_frames
 
 -- callers that a machine of these enclaves may have, if they are some
 pub record AreGoodCallers (enclaves : List EnclavePlan) (callers : List ℕ) : Type 0 where
-  pub few : length callers ≤ 8
+  pub few : length callers ≤ most_callers
   pub at_home : All (λ enclave. enclave < length enclaves) callers

@@ -2,6 +2,7 @@
 use Rattle.std.specs.Prelude.{◌≡◌, ◌≤◌, List, length, All}
 use Rattle.eleos_base.specs.declared.plan.Plan.{Plan}
 use Rattle.eleos_base.specs.AesKey.{IsKeyLength}
+use Rattle.eleos_base.specs.Limits.{most_header_blocks}
 use Rattle.eleos_base.specs.Plans.{IsGood}
 use Rattle.eleos_trace.specs.declared.word.Actor as actors
 use Rattle.eleos_trace.specs.declared.word.Word.{Word}
@@ -11,7 +12,9 @@ use Rattle.eleos_trace.specs.declared.trace.Kind.TheVariants.{Run, Replay}
 use Rattle.eleos_trace.specs.declared.trace.Line.{Line}
 use Rattle.eleos_trace.specs.declared.trace.Trace.{Trace}
 use Rattle.eleos_trace.specs.Blocks.{EachFindsRoom}
+use Rattle.eleos_trace.specs.Commands.{most_bytes}
 use Rattle.eleos_trace.specs.Replays.{IsCallerOf, MayGive}
+use Rattle.eleos_trace.specs.Seen.{most_commands}
 
 -- a command of a run is one of these five, and a caller of the plan gives it
 abbrev pub MayRun : Plan → actors.Actor → Word → Type 0
@@ -19,7 +22,7 @@ MayRun plan who (Alloc name bytes) = IsCallerOf plan who
 MayRun plan who (Free name) = IsCallerOf plan who
 MayRun plan who (Share name) = IsCallerOf plan who
 MayRun plan who (Read name offset len) = IsCallerOf plan who
-MayRun plan who (Write name offset bytes) = IsCallerOf plan who × (length bytes ≤ 2048)
+MayRun plan who (Write name offset bytes) = IsCallerOf plan who × (length bytes ≤ most_bytes)
 MayRun plan who _ = ⊥
 
 -- the actor may give the command in a trace of this kind
@@ -30,13 +33,13 @@ MayGiveIn Replay = MayGive
 -- not too many commands, each by an actor that may give it
 pub record AreGiven (kind : Kind) (plan : Plan) (lines : List Line) : Type 0 where
   pub each : All (λ line. MayGiveIn kind plan line.actor line.command) lines
-  pub few : length lines ≤ 100000
+  pub few : length lines ≤ most_commands
 
 -- a good plan with at most 256 header blocks and room for them, a key of a good length, a name for each block, and commands that the actors may give
 pub record IsTrace (kind : Kind) (trace : Trace) : Type 0 where
   pub kind_is : trace.kind ≡ kind
   pub good : IsGood trace.plan
-  pub few_blocks : length trace.plan.blocks ≤ 256
+  pub few_blocks : length trace.plan.blocks ≤ most_header_blocks
   pub room : EachFindsRoom trace.plan
   pub key : IsKeyLength (length trace.key)
   pub names : length trace.names ≡ length trace.plan.blocks

@@ -1,7 +1,8 @@
 -- What a machine has, and what can be named in it.
-use Rattle.std.specs.Prelude.{ℕ, ◌+◌, List, length, Bool, false, ◌&&◌, nat_le, sum_by, Option, Some, None, if◌then◌else◌}
+use Rattle.std.specs.Prelude.{ℕ, List, length, Bool, false, ◌&&◌, nat_le, sum_by, Option, Some, None, if◌then◌else◌}
 use Rattle.eleos_base.specs.declared.plan.Plan.{Plan}
 use Rattle.eleos_base.specs.declared.plan.EnclavePlan.{EnclavePlan}
+use Rattle.eleos_base.specs.Places.{all_pages}
 use Rattle.eleos_base.specs.Plans.{subs_in}
 use Rattle.eleos_trace.specs.declared.word.Actor.{Actor}
 use Rattle.eleos_trace.specs.declared.word.Actor.TheVariants.{Caller}
@@ -15,15 +16,7 @@ pages_of enclaves = sum_by (λ enclave. enclave.pages) enclaves
 abbrev pub frames_of : List EnclavePlan → ℕ
 frames_of enclaves = sum_by (λ enclave. enclave.frames) enclaves
 
--- the pages of a machine
-abbrev pub all_pages : Plan → ℕ
-all_pages plan = pages_of plan.enclaves
-
--- its frames, those of the pool included
-abbrev pub all_frames : Plan → ℕ
-all_frames plan = frames_of plan.enclaves + plan.spare
-
--- its sub-pages, each of which has a place of the host
+-- the sub-pages of a machine, each of which has a place of the host
 abbrev pub places : Plan → ℕ
 places plan = subs_in plan 0 (all_pages plan)
 

@@ -6,7 +6,8 @@ use Rattle.eleos_trace.specs.declared.word.Actor as actors
 use Rattle.eleos_trace.specs.declared.word.Actor.TheVariants.{Caller, Swapper, Balloon, Host}
 use Rattle.eleos_trace.specs.declared.word.Word.{Word}
 use Rattle.eleos_trace.specs.declared.word.Word.TheVariants.{Alloc, Free, Share, Read, Write, Tie, Untie, Fill, Evict, Move, Flip, SwapPlaces, Keep, Restore}
-use Rattle.eleos_trace.specs.Machines.{all_pages, all_frames, places}
+use Rattle.eleos_base.specs.Places.{all_frames, all_pages}
+use Rattle.eleos_trace.specs.Machines.{places}
 
 -- the number of a caller
 abbrev pub number_of : actors.Actor → ℕ

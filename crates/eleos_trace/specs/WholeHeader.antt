@@ -12,10 +12,11 @@ use Rattle.eleos_texts.specs.declared.why.Bad.{Bad}
 use Rattle.eleos_trace.specs.declared.header.Header.{Header}
 use Rattle.eleos_trace.specs.declared.header.NamedBlock.{NamedBlock}
 use Rattle.eleos_texts.specs.Fields.{is, is_blank}
+use Rattle.eleos_texts.specs.Heads.{key_line, start_line}
 use Rattle.eleos_texts.specs.Reasons.{at_line, ◌>>=◌}
 use Rattle.eleos_trace.specs.Homes.{enclave_line, caller_line}
 use Rattle.eleos_trace.specs.Blocks.{with_blocks, block_line, AreGoodBlocks}
-use Rattle.eleos_trace.specs.Header.{title_line, spare_line, wear_line, key_line, start_line}
+use Rattle.eleos_trace.specs.Header.{title_line, spare_line, wear_line}
 
 -- the words of the first of these lines, which has this number and which a newline ends; and the lines behind it
 abbrev pub next_words : ℕ → List (List ℕ) → Result (List (List ℕ) × List (List ℕ)) Bad

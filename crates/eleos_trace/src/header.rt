@@ -11,8 +11,7 @@ mod lines;
 mod rooms;
 mod whole;
 
-pub(crate) use homes::MOST_FRAMES;
-pub(crate) use whole::{header_lines, header_of};
+pub(crate) use whole::{header_lines, header_of, machine_lines};
 
 /// A header block with its name.
 #[derive(Debug, Drop)]

@@ -4,21 +4,21 @@
 mod actors;
 mod commands;
 mod frames;
+mod givers;
 mod header;
 mod host;
+mod lines;
 mod machines;
 mod names;
-mod planned;
+mod pointers;
 mod reading;
-mod replay_forms;
-mod run_forms;
+mod rounds;
 mod seen;
-mod ties;
 mod trace;
 mod verbs;
 mod word;
 
 pub use machines::places;
-pub use reading::parse;
+pub use reading::{line_count, parse, parse_prefix};
 pub use trace::{Kind, Line, Trace};
 pub use word::{Actor, Word};

@@ -1,7 +1,8 @@
 // What a machine has, and what can be named in it.
 ghost use Rattle.std.specs.Prelude.{◌≡◌, ◌≤◌, length};
 ghost use Rattle.eleos_base.specs.Plans.{IsGood, enclave_of};
-ghost use Rattle.eleos_trace.specs.Machines.{pages_of, frames_of, all_pages, all_frames, places};
+ghost use Rattle.eleos_base.specs.Places.{all_frames, all_pages};
+ghost use Rattle.eleos_trace.specs.Machines.{pages_of, frames_of, places};
 ghost use Rattle.eleos_trace.specs.Machines.{enclave_in, is_caller};
 
 use crate::Actor;
@@ -25,6 +26,7 @@ pub(crate) fn frames_of(enclaves: &[EnclavePlan]) -> u32
 }
 
 /// The pages of a machine.
+#[tactic(auto, using(crate::proofs::Counts::pages_are))]
 pub(crate) fn all_pages(plan: &Plan) -> u32
     requires { IsGood plan.now }
     ensures { result ≡ all_pages plan.now }
@@ -33,6 +35,7 @@ pub(crate) fn all_pages(plan: &Plan) -> u32
 }
 
 /// Its frames, those of the pool included.
+#[tactic(auto, using(crate::proofs::Counts::frames_are))]
 pub(crate) fn all_frames(plan: &Plan) -> u32
     requires { IsGood plan.now }
     ensures { result ≡ all_frames plan.now }
@@ -41,6 +44,7 @@ pub(crate) fn all_frames(plan: &Plan) -> u32
 }
 
 /// Its sub-pages, each of which has a place of the host.
+#[tactic(auto, using(crate::proofs::Counts::pages_are))]
 pub fn places(plan: &Plan) -> u32
     requires { IsGood plan.now }
     ensures { result ≡ places plan.now }

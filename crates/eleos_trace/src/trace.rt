@@ -4,7 +4,8 @@ ghost use Rattle.std.specs.Prelude.{◌≡◌};
 use crate::{Actor, Word};
 use eleos_base::{Bytes, List, Plan};
 
-/// What a trace is for: threads that run the programs of its callers, or one replay of all its commands in their order.
+/// What a trace is for: threads that run the programs of its callers, or one replay of all its
+/// commands in their order.
 #[derive(Clone, Copy, Debug, PartialEq, Eq)]
 pub enum Kind {
     Run,
@@ -32,7 +33,8 @@ pub struct Line {
     pub command: Word,
 }
 
-/// A kind, a machine, the key of its seals (16, 24 or 32 bytes), the names of its header blocks in their order, and the commands in theirs.
+/// A kind, a machine, the key of its seals (16, 24 or 32 bytes), the names of its header blocks in
+/// their order, and the commands in theirs.
 #[derive(Debug, Drop)]
 pub struct Trace {
     pub kind: Kind,

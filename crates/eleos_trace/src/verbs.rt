@@ -1,246 +1,129 @@
-// A line by its actor and its verb.
-ghost use Rattle.std.specs.Prelude.{◌≡◌, List, ℕ, map};
-ghost use Rattle.eleos_base.specs.Plans.{IsGood};
-ghost use Rattle.eleos_trace.specs.Verbs.{is_link, line_of, command_of};
-ghost use Rattle.eleos_trace.specs.Verbs.{frame_command_of, host_command_of, run_command_of};
-ghost use Rattle.eleos_trace.specs.Verbs.{planned_command_of, planned_frame_command_of};
-ghost use Rattle.eleos_trace.specs.Verbs.{replay_command_of, other_command_of};
-ghost use Rattle.eleos_texts.specs.Reasons.{Reads};
+// What commands are called.
+ghost use Rattle.std.specs.Prelude.{◌≡◌, List, ℕ};
+ghost use Rattle.eleos_trace.specs.Verbs.{verb_text, is_called, verb_called, given_by, verb_of};
 
-use crate::actors::actor_of;
-use crate::commands::{alloc_of, free_of, read_of, share_of, write_of};
-use crate::frames::{evict_of, fill_of, move_of};
-use crate::header::Header;
-use crate::host::{flip_of, keep_of, restore_of, swap_of};
-use crate::run_forms::{balloon_of, call_of, link_of, point_of, sread_of, step_of, swrite_of};
-use crate::seen::Seen;
-use crate::ties::{tie_of, untie_of};
-use crate::{Actor, Kind, Line, Word, planned, replay_forms};
-use eleos_texts::counts::two_and_more;
-use eleos_texts::{LineRefused, Why, refused};
-use std::alloc::Global;
+use crate::Actor;
 
-/// A line by its words.
-pub(crate) fn line_of(
-    alloc: Global,
-    header: &Header,
-    seen: &Seen,
-    words: &[&[u8]],
-) -> Result<Line, LineRefused>
-    requires { IsGood header.now.plan }
-    ensures { Reads (λ line. line) result
-        (line_of header.now seen.now (map (λ word. word.now) words.now)) }
-{
-    let (actor, verb, args) = two_and_more(words)?;
-    let Some(actor) = actor_of(actor) else {
-        return refused(Why::Form);
-    };
-    let command = command_of(alloc, header, seen, actor, verb, args)?;
-    Ok(Line { actor, command })
+/// What a command is called. `swap` is two commands: one of the host, and one of all others.
+#[derive(Clone, Copy, Debug, PartialEq, Eq)]
+pub(crate) enum Verb {
+    Alloc,
+    Free,
+    Share,
+    Read,
+    Write,
+    Tie,
+    Untie,
+    Fill,
+    Evict,
+    Move,
+    Flip,
+    SwapPlaces,
+    Keep,
+    Restore,
+    Point,
+    Copy,
+    Drop,
+    Link,
+    Unlink,
+    Step,
+    ReadAt,
+    WriteAt,
+    SwapRound,
+    Balloon,
+    Call,
 }
 
-fn command_of(
-    alloc: Global,
-    header: &Header,
-    seen: &Seen,
-    actor: Actor,
-    verb: &[u8],
-    args: &[&[u8]],
-) -> Result<Word, LineRefused>
-    requires { IsGood header.now.plan }
-    ensures { Reads (λ word. word) result
-        (command_of header.now seen.now actor verb.now (map (λ arg. arg.now) args.now)) }
+/// All verbs; of the two that are called `swap` the one that is not the host's.
+const VERBS: [Verb; 24] = [
+    Verb::Alloc,
+    Verb::Free,
+    Verb::Share,
+    Verb::Read,
+    Verb::Write,
+    Verb::Tie,
+    Verb::Untie,
+    Verb::Fill,
+    Verb::Evict,
+    Verb::Move,
+    Verb::Flip,
+    Verb::Keep,
+    Verb::Restore,
+    Verb::Point,
+    Verb::Copy,
+    Verb::Drop,
+    Verb::Link,
+    Verb::Unlink,
+    Verb::Step,
+    Verb::ReadAt,
+    Verb::WriteAt,
+    Verb::SwapRound,
+    Verb::Balloon,
+    Verb::Call,
+];
+
+/// The verb that a word of the actor says.
+pub(crate) fn verb_of(actor: Actor, word: &[u8]) -> Option<Verb>
+    ensures { result ≡ verb_of actor word.now }
 {
-    if verb == b"alloc".as_slice() {
-        alloc_of(alloc, header, seen, actor, args)
-    } else if verb == b"free".as_slice() {
-        free_of(alloc, header, seen, actor, args)
-    } else if verb == b"share".as_slice() {
-        share_of(alloc, header, seen, actor, args)
-    } else if verb == b"read".as_slice() {
-        read_of(alloc, header, seen, actor, args)
-    } else if verb == b"write".as_slice() {
-        write_of(alloc, header, seen, actor, args)
-    } else {
-        other_command_of(alloc, header, seen, actor, verb, args)
+    match verb_called(word) {
+        Some(verb) => Some(given_by(actor, verb)),
+        None => None,
     }
 }
 
-/// A command by a verb that is not one of a caller on its memory.
-fn other_command_of(
-    alloc: Global,
-    header: &Header,
-    seen: &Seen,
-    actor: Actor,
-    verb: &[u8],
-    args: &[&[u8]],
-) -> Result<Word, LineRefused>
-    requires { IsGood header.now.plan }
-    ensures { Reads (λ word. word) result
-        (other_command_of header.now seen.now actor verb.now (map (λ arg. arg.now) args.now)
-        header.now.kind) }
+/// The verb that has this word.
+#[tactic(auto, unfolding(crate::specs::Verbs::verb_called))]
+fn verb_called(word: &[u8]) -> Option<Verb>
+    ensures { result ≡ verb_called word.now }
 {
-    match header.kind {
-        Kind::Run => planned_command_of(alloc, header, seen, actor, verb, args),
-        Kind::Replay => frame_command_of(alloc, header, seen, actor, verb, args),
+    VERBS.iter().copied().find(|verb| is_called(*verb, word))
+}
+
+fn is_called(verb: Verb, word: &[u8]) -> bool
+    ensures { result ≡ is_called word.now verb }
+{
+    word == text_of(verb)
+}
+
+/// The verb as an actor gives it.
+fn given_by(actor: Actor, verb: Verb) -> Verb
+    ensures { result ≡ given_by actor verb }
+{
+    match (actor, verb) {
+        (Actor::Host, Verb::SwapRound) => Verb::SwapPlaces,
+        _ => verb,
     }
 }
 
-fn planned_command_of(
-    alloc: Global,
-    header: &Header,
-    seen: &Seen,
-    actor: Actor,
-    verb: &[u8],
-    args: &[&[u8]],
-) -> Result<Word, LineRefused>
-    requires { IsGood header.now.plan }
-    ensures { Reads (λ word. word) result
-        (planned_command_of header.now seen.now actor verb.now (map (λ arg. arg.now) args.now)) }
+/// The word of a verb.
+fn text_of(verb: Verb) -> &'static [u8]
+    ensures { result.now ≡ verb_text verb }
 {
-    if verb == b"point".as_slice() {
-        planned::point_of(header, seen, actor, args)
-    } else if verb == b"copy".as_slice() {
-        planned::copy_of(header, seen, actor, args)
-    } else if is_link(verb) {
-        planned::link_of(header, seen, actor, args)
-    } else if verb == b"step".as_slice() {
-        planned::step_of(header, seen, actor, args)
-    } else if verb == b"sread".as_slice() {
-        planned::sread_of(header, seen, actor, args)
-    } else if verb == b"swrite".as_slice() {
-        planned::swrite_of(alloc, header, seen, actor, args)
-    } else {
-        planned_frame_command_of(alloc, header, seen, actor, verb, args)
+    match verb {
+        Verb::Alloc => b"alloc",
+        Verb::Free => b"free",
+        Verb::Share => b"share",
+        Verb::Read => b"read",
+        Verb::Write => b"write",
+        Verb::Tie => b"tie",
+        Verb::Untie => b"untie",
+        Verb::Fill => b"fill",
+        Verb::Evict => b"evict",
+        Verb::Move => b"move",
+        Verb::Flip => b"flip",
+        Verb::Keep => b"keep",
+        Verb::Restore => b"restore",
+        Verb::Point => b"point",
+        Verb::Copy => b"copy",
+        Verb::Drop => b"drop",
+        Verb::Link => b"link",
+        Verb::Unlink => b"unlink",
+        Verb::Step => b"step",
+        Verb::ReadAt => b"sread",
+        Verb::WriteAt => b"swrite",
+        Verb::SwapPlaces | Verb::SwapRound => b"swap",
+        Verb::Balloon => b"balloon",
+        Verb::Call => b"call",
     }
-}
-
-fn planned_frame_command_of(
-    alloc: Global,
-    header: &Header,
-    seen: &Seen,
-    actor: Actor,
-    verb: &[u8],
-    args: &[&[u8]],
-) -> Result<Word, LineRefused>
-    requires { IsGood header.now.plan }
-    ensures { Reads (λ word. word) result
-        (planned_frame_command_of header.now seen.now actor verb.now
-        (map (λ arg. arg.now) args.now)) }
-{
-    if verb == b"flip".as_slice() {
-        planned::flip_of(header, seen, actor, args)
-    } else if verb == b"swap".as_slice() {
-        planned::swap_of(header, seen, actor, args)
-    } else if verb == b"keep".as_slice() || verb == b"restore".as_slice() {
-        planned::keep_of(header, seen, actor, args)
-    } else if verb == b"balloon".as_slice() {
-        planned::balloon_of(header, seen, actor, args)
-    } else if verb == b"call".as_slice() {
-        planned::call_of(alloc, header, seen, actor, args)
-    } else {
-        replay_command_of(seen, verb, args)
-    }
-}
-
-fn replay_command_of(seen: &Seen, verb: &[u8], args: &[&[u8]]) -> Result<Word, LineRefused>
-    ensures { Reads (λ word. word) result
-        (replay_command_of seen.now verb.now (map (λ arg. arg.now) args.now)) }
-{
-    if verb == b"tie".as_slice() || verb == b"untie".as_slice() {
-        replay_forms::tie_of(seen, args)
-    } else if verb == b"fill".as_slice() || verb == b"evict".as_slice() {
-        replay_forms::fill_of(seen, args)
-    } else if verb == b"move".as_slice() {
-        replay_forms::move_of(seen, args)
-    } else {
-        refused(Why::Form)
-    }
-}
-
-fn frame_command_of(
-    alloc: Global,
-    header: &Header,
-    seen: &Seen,
-    actor: Actor,
-    verb: &[u8],
-    args: &[&[u8]],
-) -> Result<Word, LineRefused>
-    requires { IsGood header.now.plan }
-    ensures { Reads (λ word. word) result
-        (frame_command_of header.now seen.now actor verb.now (map (λ arg. arg.now) args.now)) }
-{
-    if verb == b"tie".as_slice() {
-        tie_of(alloc, header, seen, actor, args)
-    } else if verb == b"untie".as_slice() {
-        untie_of(alloc, header, seen, actor, args)
-    } else if verb == b"fill".as_slice() {
-        fill_of(header, seen, actor, args)
-    } else if verb == b"evict".as_slice() {
-        evict_of(header, seen, actor, args)
-    } else if verb == b"move".as_slice() {
-        move_of(header, seen, actor, args)
-    } else {
-        host_command_of(alloc, header, seen, actor, verb, args)
-    }
-}
-
-fn host_command_of(
-    alloc: Global,
-    header: &Header,
-    seen: &Seen,
-    actor: Actor,
-    verb: &[u8],
-    args: &[&[u8]],
-) -> Result<Word, LineRefused>
-    requires { IsGood header.now.plan }
-    ensures { Reads (λ word. word) result
-        (host_command_of header.now seen.now actor verb.now (map (λ arg. arg.now) args.now)) }
-{
-    if verb == b"flip".as_slice() {
-        flip_of(header, seen, actor, args)
-    } else if verb == b"swap".as_slice() {
-        swap_of(header, seen, actor, args)
-    } else if verb == b"keep".as_slice() {
-        keep_of(header, seen, actor, args)
-    } else if verb == b"restore".as_slice() {
-        restore_of(header, seen, actor, args)
-    } else {
-        run_command_of(alloc, seen, verb, args)
-    }
-}
-
-fn run_command_of(
-    alloc: Global,
-    seen: &Seen,
-    verb: &[u8],
-    args: &[&[u8]],
-) -> Result<Word, LineRefused>
-    ensures { Reads (λ word. word) result
-        (run_command_of seen.now verb.now (map (λ arg. arg.now) args.now)) }
-{
-    if verb == b"point".as_slice() || verb == b"copy".as_slice() {
-        point_of(seen, args)
-    } else if is_link(verb) {
-        link_of(seen, args)
-    } else if verb == b"step".as_slice() {
-        step_of(seen, args)
-    } else if verb == b"sread".as_slice() {
-        sread_of(seen, args)
-    } else if verb == b"swrite".as_slice() {
-        swrite_of(alloc, seen, args)
-    } else if verb == b"balloon".as_slice() {
-        balloon_of(seen, args)
-    } else if verb == b"call".as_slice() {
-        call_of(alloc, seen, args)
-    } else {
-        refused(Why::Form)
-    }
-}
-
-/// Whether the verb has a pointer alone.
-fn is_link(verb: &[u8]) -> bool
-    ensures { result ≡ is_link verb.now }
-{
-    verb == b"drop".as_slice() || verb == b"link".as_slice() || verb == b"unlink".as_slice()
 }

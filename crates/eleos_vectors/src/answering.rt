@@ -3,7 +3,8 @@ ghost use Rattle.std.specs.Prelude.{◌≡◌, ◌++◌, ◌≤◌, length, OnOk
 ghost use Rattle.eleos_base.specs.AesCipher.{aes};
 ghost use Rattle.eleos_base.specs.Gcm.{ciphertext_of};
 ghost use Rattle.eleos_texts.specs.Texts.{hex_text};
-ghost use Rattle.eleos_vectors.specs.Answers.{sealed_text, opened_text, vector_text, answer_text, answers_text};
+ghost use Rattle.eleos_vectors.specs.Answers.{sealed_text, opened_text, vector_text, answer_text};
+ghost use Rattle.eleos_vectors.specs.Answers.{answers_text};
 
 use crate::vector::Vector;
 use eleos_aes::Aes;
@@ -12,17 +13,27 @@ use eleos_gcm::Gcm;
 use eleos_texts::printing::{push, push_end, push_hex};
 use std::alloc::Global;
 
+/// Bytes of the last line: `end`, a blank, the digits of a number and a newline.
+const MOST_END: usize = 25;
+
 /// The answers to vectors, a line for each, and their number.
 pub fn answers(alloc: Global, vectors: &[Vector]) -> Result<Vec<u8>, NoMemory>
     ensures { IfOk result (λ text. text.items ≡ answers_text vectors.now) }
 {
-    let mut text = Vec::new(alloc);
+    let mut text = Vec::with_capacity(alloc, room_for(vectors))?;
     for vector in vectors {
         push_vector(alloc, &mut text, vector)?;
         push(&mut text, b"\n")?;
     }
     push_end(alloc, &mut text, vectors.len() as u64)?;
     Ok(text)
+}
+
+/// Room for the answers in bytes, so that their text need not grow. Nothing is promised of it.
+fn room_for(vectors: &[Vector]) -> usize {
+    vectors.iter().fold(MOST_END, |room, vector| {
+        room.saturating_add(vector.answer_room())
+    })
 }
 
 fn push_vector(alloc: Global, out: &mut Vec<u8>, vector: &Vector) -> Result<(), NoMemory>

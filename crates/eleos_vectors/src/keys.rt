@@ -5,6 +5,7 @@ ghost use Rattle.eleos_vectors.specs.Vectors.{keyed, sized};
 use eleos_aes::Aes;
 use eleos_base::Bytes;
 use eleos_gcm::Gcm;
+use eleos_texts::heads::is_key_length;
 use std::marker::Model;
 
 /// A key of 16, 24 or 32 bytes. It is expanded where it is used, so that many vectors take little
@@ -29,7 +30,7 @@ impl Key {
     pub fn of(bytes: Bytes) -> Option<Self>
         ensures { result ≡ keyed bytes }
     {
-        if !matches!(bytes.len(), 16 | 24 | 32) {
+        if !is_key_length(bytes.len()) {
             return None;
         }
         Some(Key { bytes })

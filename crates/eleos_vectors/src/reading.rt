@@ -12,11 +12,10 @@ use crate::vector::{ShortText, Vector};
 use eleos_texts::counts::{five, four, one_and_more, two};
 use eleos_texts::fields::hex_bytes;
 use eleos_texts::splits::{first_line, words_of};
-use eleos_texts::{LineRefused, TraceRefused, Why, at_line, is_end, nothing_after, refused};
+use eleos_texts::{
+    LineRefused, MOST_TEXT, TraceRefused, Why, at_line, is_end, nothing_after, refused,
+};
 use std::alloc::Global;
-
-/// Bytes of a text.
-const MOST_TEXT: usize = 16_777_216;
 
 fn aes_of(alloc: Global, args: &[&[u8]]) -> Result<Vector, LineRefused>
     ensures { Reads (λ vector. vector) result (aes_of (map (λ arg. arg.now) args.now)) }
@@ -110,7 +109,7 @@ fn vector_of(alloc: Global, words: &[&[u8]]) -> Result<Vector, LineRefused>
 pub fn vectors_in(alloc: Global, input: &[u8]) -> Result<Vec<Vector>, TraceRefused>
     ensures { Gives (λ vectors. vectors.items) result (vectors_in input.now) }
 {
-    if input.len() > MOST_TEXT {
+    if input.len() > MOST_TEXT as usize {
         return Err(TraceRefused::Bad {
             line: 0,
             why: Why::TooLarge,

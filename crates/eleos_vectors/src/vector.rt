@@ -67,3 +67,15 @@ pub enum Vector {
         tag: [u8; 16],
     },
 }
+
+impl Vector {
+    /// Room in bytes for the line that answers it: digits of a block, of a text and a tag, or of a
+    /// text or `fail`. Nothing is promised of it.
+    pub(crate) fn answer_room(&self) -> usize {
+        match self {
+            Vector::Aes { .. } => 33,
+            Vector::Seal { text, .. } => 2 * text.as_slice().len() + 35,
+            Vector::Open { ciphertext, .. } => 2 * ciphertext.as_slice().len() + 5,
+        }
+    }
+}

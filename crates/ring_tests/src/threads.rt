@@ -33,7 +33,8 @@ fn each_caller_has_its_own_replies(rt: HostRuntime) -> Result<(), Fail> {
     Ok(())
 }
 
-// The callers, with the passes of the first and the second, and the workers, with those of the third.
+// The callers, with the passes of the first and the second, and the workers, with those of the
+// third.
 fn beside<R: Threads + Wait + Sync>(
     rt: &R,
     jobs: &Jobs,
@@ -50,7 +51,8 @@ fn beside<R: Threads + Wait + Sync>(
     join(
         rt,
         move || -> (u32, u32)
-            requires { IsSync R.row × (IsOf jobs.now one.0 × IsOf jobs.now one.1) × (IsOf jobs.now two.0 × IsOf jobs.now two.1) }
+            requires { IsSync R.row × (IsOf jobs.now one.0 × IsOf jobs.now one.1)
+                × (IsOf jobs.now two.0 × IsOf jobs.now two.1) }
         { call_both(rt, jobs, words, ended, one, two) },
         move || -> ()
             requires { IsSync R.row × (IsOf jobs.now three.0 × IsOf jobs.now three.1) }

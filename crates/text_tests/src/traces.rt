@@ -1,7 +1,8 @@
 // What a trace has of its text. The texts that are read or refused are cases of the program.
 
 use eleos_base::{BlockPlan, EnclavePlan};
-use eleos_trace::{Kind, Trace, parse};
+use eleos_report::read_log;
+use eleos_trace::{Kind, Trace, line_count, parse, parse_prefix};
 use std::process::Abort;
 use std::test::*;
 
@@ -56,6 +57,20 @@ fn a_header_is_read(rt: HostRuntime) -> Result<(), Fail> {
     assert_eq!(rt; names.len(), 2);
     assert_eq!(rt; names[0].as_slice(), b"top".as_slice());
     assert_eq!(rt; names[1].as_slice(), b"low".as_slice());
+    Ok(())
+}
+
+#[test]
+fn a_log_stands_behind_a_trace(rt: HostRuntime) -> Result<(), Fail> {
+    let alloc = rt.alloc();
+    let log = "- c1 free a = skipped\nend 0\n";
+    let text = format!(in alloc; "{TEXT}{log}")?;
+    let (trace, after) = parse_prefix(alloc, Kind::Replay, text.as_bytes())?;
+    has_plan(&rt, &trace);
+    assert_eq!(rt; after, log.as_bytes());
+    assert_eq!(rt; line_count(&trace), 12);
+    let lines = read_log(alloc, after, line_count(&trace) + 1, trace.kind)?;
+    assert_eq!(rt; lines.len(), 2);
     Ok(())
 }
 

@@ -12,17 +12,11 @@ use super::lines::begins;
 use super::rooms::has_space;
 use super::whole::next_words;
 use crate::machines::{enclave_in, enclave_of};
-use eleos_base::{BlockPlan, Bytes, Plan};
+use eleos_base::{BlockPlan, Bytes, MOST_BLOCK_BYTES, MOST_HEADER_BLOCKS, Plan};
 use eleos_texts::counts::eight;
 use eleos_texts::fields::{is_name, is_number, is_numeral, number_up_to};
 use eleos_texts::{LineRefused, TraceRefused, Why, at_line, refused};
 use std::alloc::Global;
-
-/// Header blocks of a machine.
-const MOST_BLOCKS: usize = 256;
-
-/// Bytes of a block.
-const MOST_BLOCK: u64 = 65_536;
 
 /// `block NAME enclave E bytes N owner C`, behind the blocks before it.
 fn block_line(
@@ -51,7 +45,7 @@ fn block_line(
     {
         return refused(Why::Form);
     }
-    if before.len() >= MOST_BLOCKS {
+    if before.len() >= MOST_HEADER_BLOCKS as usize {
         return refused(Why::Range);
     }
     if is_taken(before, enclave, name) {
@@ -60,7 +54,7 @@ fn block_line(
     let Some(enclave) = enclave_in(plan.enclaves.as_slice(), enclave) else {
         return refused(Why::Enclave);
     };
-    let Some(bytes) = number_up_to(bytes, MOST_BLOCK) else {
+    let Some(bytes) = number_up_to(bytes, u64::from(MOST_BLOCK_BYTES)) else {
         return refused(Why::BadSize);
     };
     let bytes = bytes as u32;

@@ -10,26 +10,13 @@ ghost use Rattle.eleos_texts.specs.Reasons.{Gives, Reads};
 use super::lines::is_one_of;
 use super::whole::next_words;
 use crate::machines::{enclave_in, frames_of, pages_of};
-use eleos_base::EnclavePlan;
+use eleos_base::{
+    EnclavePlan, MOST_CALLERS, MOST_ENCLAVES, MOST_FRAMES, MOST_PAGES, MOST_PAGES_IN_ALL,
+};
 use eleos_texts::counts::{four, six};
 use eleos_texts::fields::{is_number, is_numeral, number_up_to};
 use eleos_texts::{LineRefused, TraceRefused, Why, at_line, refused};
 use std::alloc::Global;
-
-/// Enclaves of a machine.
-const MOST_ENCLAVES: usize = 8;
-
-/// Pages of an enclave.
-const MOST_PAGES: u64 = 1024;
-
-/// Pages of a machine.
-const MOST_PAGES_IN_ALL: u64 = 4096;
-
-/// Frames of a machine, those of the pool included.
-pub(crate) const MOST_FRAMES: u32 = 512;
-
-/// Callers of a machine.
-const MOST_CALLERS: usize = 8;
 
 /// `enclave E pages P frames F`, where E counts the enclaves before it.
 fn enclave_line(before: &[EnclavePlan], words: &[&[u8]]) -> Result<EnclavePlan, LineRefused>
@@ -46,16 +33,16 @@ fn enclave_line(before: &[EnclavePlan], words: &[&[u8]]) -> Result<EnclavePlan, 
     {
         return refused(Why::Form);
     }
-    if before.len() >= MOST_ENCLAVES {
+    if before.len() >= MOST_ENCLAVES as usize {
         return refused(Why::Range);
     }
     let (Some(pages), Some(frames)) = (
-        number_up_to(pages, MOST_PAGES),
+        number_up_to(pages, u64::from(MOST_PAGES)),
         number_up_to(frames, u64::from(MOST_FRAMES)),
     ) else {
         return refused(Why::Range);
     };
-    if pages == 0 || u64::from(pages_of(before)) + pages > MOST_PAGES_IN_ALL {
+    if pages == 0 || u64::from(pages_of(before)) + pages > u64::from(MOST_PAGES_IN_ALL) {
         return refused(Why::Range);
     }
     if u64::from(frames_of(before)) + frames > u64::from(MOST_FRAMES) {
@@ -114,7 +101,7 @@ fn caller_line(
     {
         return refused(Why::Form);
     }
-    if before.len() >= MOST_CALLERS {
+    if before.len() >= MOST_CALLERS as usize {
         return refused(Why::Range);
     }
     let Some(enclave) = enclave_in(enclaves, enclave) else {

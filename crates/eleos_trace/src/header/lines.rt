@@ -1,22 +1,16 @@
 // The lines of which a header has one each.
 ghost use Rattle.std.specs.Prelude.{◌≡◌, ◌≤◌, List, ℕ, map};
-ghost use Rattle.eleos_trace.specs.Header.{title_line, spare_line, wear_line, key_line, start_line};
-ghost use Rattle.eleos_texts.specs.Fields.{is_key_length};
+ghost use Rattle.eleos_trace.specs.Header.{title_line, spare_line, wear_line};
 ghost use Rattle.eleos_trace.specs.WholeHeader.{begins, is_one_of};
 ghost use Rattle.eleos_trace.specs.Machines.{frames_of};
 ghost use Rattle.eleos_texts.specs.Reasons.{Reads};
 
-use super::homes::MOST_FRAMES;
 use crate::Kind;
 use crate::machines::frames_of;
-use eleos_base::{Bytes, EnclavePlan};
-use eleos_texts::counts::{one, three, two};
-use eleos_texts::fields::{hex_bytes, is_numeral, number_up_to};
+use eleos_base::{EnclavePlan, MOST_FRAMES, MOST_WEAR};
+use eleos_texts::counts::{three, two};
+use eleos_texts::fields::{is_numeral, number_up_to};
 use eleos_texts::{LineRefused, Why, refused};
-use std::alloc::Global;
-
-/// How often a sub-page may be sealed.
-const MOST_WEAR: u64 = 1 << 63;
 
 /// `eleos 1 run` or `eleos 1 replay`, by the kind that is asked for.
 pub(crate) fn title_line(kind: Kind, words: &[&[u8]]) -> Result<(), LineRefused>
@@ -62,40 +56,6 @@ pub(crate) fn wear_line(words: &[&[u8]]) -> Result<u64, LineRefused>
         return refused(Why::Range);
     }
     Ok(wear)
-}
-
-/// `key HEX`
-pub(crate) fn key_line(alloc: Global, words: &[&[u8]]) -> Result<Bytes, LineRefused>
-    ensures { Reads (λ x. x) result (key_line (map (λ word. word.now) words.now)) }
-{
-    let (first, key) = two(words)?;
-    if first != b"key".as_slice() {
-        return refused(Why::Form);
-    }
-    let Some(key) = hex_bytes(alloc, key)? else {
-        return refused(Why::Form);
-    };
-    if !is_key_length(key.len()) {
-        return refused(Why::Range);
-    }
-    Ok(key)
-}
-
-/// A key has so many bytes.
-fn is_key_length(bytes: usize) -> bool
-    ensures { result ≡ is_key_length bytes }
-{
-    bytes == 16 || bytes == 24 || bytes == 32
-}
-
-/// `start`
-pub(crate) fn start_line(words: &[&[u8]]) -> Result<(), LineRefused>
-    ensures { Reads (λ x. x) result (start_line (map (λ word. word.now) words.now)) }
-{
-    if one(words)? != b"start".as_slice() {
-        return refused(Why::Form);
-    }
-    Ok(())
 }
 
 /// Whether this is the first word of the line.

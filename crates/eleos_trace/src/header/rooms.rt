@@ -1,14 +1,14 @@
 // Whether a header block finds room behind those before it.
-ghost use Rattle.std.specs.Prelude.{◌≡◌, ◌≤◌, ◌<◌, All, length};
+ghost use Rattle.std.specs.Prelude.{◌≡◌, ◌≤◌, ◌<◌, All, length, map};
 ghost use Rattle.eleos_base.specs.Plans.{IsGood};
-ghost use Rattle.eleos_base.specs.Plain.{subs_for};
-ghost use Rattle.eleos_trace.specs.Blocks.{has_space, with_blocks};
-ghost use Rattle.eleos_trace.specs.Rooms.{free_behind};
+ghost use Rattle.eleos_base.specs.Rooms.{free_behind, has_space};
+ghost use Rattle.eleos_trace.specs.Blocks.{with_blocks};
 
 use super::NamedBlock;
-use eleos_base::{PAGE_BYTES, Plan, SUB_BYTES};
+use eleos_base::{Plan, free_behind, less_block, subs_for};
 
-/// Whether so many bytes find a free run in the enclave. Header blocks are never freed, so they stand one behind the other from the enclave's start, and all that is free is behind them.
+/// Whether so many bytes find a free run in the enclave: all that is free is behind the blocks
+/// before.
 pub(crate) fn has_space(plan: &Plan, before: &[NamedBlock], enclave: u16, bytes: u32) -> bool
     requires good { IsGood plan.now }
     requires enclave { enclave < length plan.now.enclaves }
@@ -16,27 +16,18 @@ pub(crate) fn has_space(plan: &Plan, before: &[NamedBlock], enclave: u16, bytes:
     requires some { 1 ≤ bytes }
     ensures { result ≡ has_space (with_blocks plan.now before.now) enclave bytes }
 {
-    subs_for(bytes) <= free_behind(plan, before, enclave)
+    subs_for(bytes) <= free_behind_named(plan, before, enclave)
 }
 
 /// The sub-pages of the enclave that are behind these blocks.
-fn free_behind(plan: &Plan, blocks: &[NamedBlock], enclave: u16) -> u32
+fn free_behind_named(plan: &Plan, blocks: &[NamedBlock], enclave: u16) -> u32
     requires good { IsGood plan.now }
     requires enclave { enclave < length plan.now.enclaves }
-    ensures { result ≡ free_behind plan.now enclave blocks.now }
+    ensures { result ≡ free_behind plan.now enclave (map (λ named. named.block) blocks.now) }
 {
-    let mut free = PAGE_BYTES * plan.enclaves.as_slice()[enclave as usize].pages / SUB_BYTES;
+    let mut free = free_behind(plan, &[], enclave);
     for named in blocks {
-        if named.block.enclave == enclave && subs_for(named.block.bytes) <= free {
-            free -= subs_for(named.block.bytes);
-        }
+        free = less_block(enclave, free, &named.block);
     }
     free
-}
-
-/// The sub-pages that so many bytes take.
-fn subs_for(bytes: u32) -> u32
-    ensures { result ≡ subs_for 1024 bytes }
-{
-    bytes.div_ceil(SUB_BYTES)
 }

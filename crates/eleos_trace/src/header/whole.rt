@@ -11,9 +11,10 @@ ghost use Rattle.eleos_texts.specs.Reasons.{Gives};
 use super::Header;
 use super::blocks::blocks_of;
 use super::homes::{callers_of, enclaves_of};
-use super::lines::{key_line, spare_line, start_line, title_line, wear_line};
+use super::lines::{spare_line, title_line, wear_line};
 use crate::Kind;
 use eleos_base::{List, Plan};
+use eleos_texts::heads::{key_line, start_line};
 use eleos_texts::splits::{first_line, words_of};
 use eleos_texts::{TraceRefused, Why, at_line};
 use std::alloc::Global;
@@ -38,7 +39,8 @@ pub(crate) fn next_words<'a>(
     Ok((words_of(alloc, front)?, rest))
 }
 
-/// The machine of a text of this kind without its blocks, and the text behind the lines that say it.
+/// The machine of a text of this kind without its blocks, and the text behind the lines that say
+/// it.
 #[tactic(auto, unfolding(crate::specs::WholeHeader::machine_of))]
 fn machine_of(alloc: Global, kind: Kind, text: &[u8]) -> Result<(Plan, &[u8]), TraceRefused>
     ensures given { Gives (λ x. (x.0, slice_split is_newline x.1.now)) result
@@ -67,7 +69,7 @@ fn machine_of(alloc: Global, kind: Kind, text: &[u8]) -> Result<(Plan, &[u8]), T
 }
 
 /// The lines up to those of enclaves and callers, and up to the wear.
-fn machine_lines(plan: &Plan) -> u32
+pub(crate) fn machine_lines(plan: &Plan) -> u32
     requires { IsGood plan.now }
     ensures { result ≡ machine_lines plan.now }
 {

@@ -6,18 +6,12 @@ use Rattle.eleos_trace.specs.Kinds.{MayGiveIn}
 use Rattle.eleos_trace.proofs.Chosen.{line_ok}
 use Rattle.eleos_trace.proofs.Good.{All-push}
 use Rattle.eleos_texts.proofs.Answers.{read_ok}
-use Rattle.eleos_trace.proofs.Loop.{at_cut, at_end, at_more, at_bad, at_command}
+use Rattle.eleos_trace.proofs.Loop.{at_cut, at_end, at_bad, at_command}
 use Rattle.eleos_trace.proofs.reading.commands_of.Goals as goal
-
-pub returns-in_err-nothing_after-clause-given : goal.returns-in_err-nothing_after-clause-given
-returns-in_err-nothing_after-clause-given c =
-    let p = err_from_is_err_and c.from_residual-in_err-nothing_after.result c.from_residual-in_err-nothing_after.ensures.1 in
-    rw (p.1, p.2) (at_more c.args.header.now c.loop-front.line c.loop-front.seen c.loop-front.lines.items c.loop-front.rest.now _ c.loop-front.invariant.whole
-    c.in-Some.front.now c.in-Some.after.now c.in-Some.ensures.parts c.in_err-nothing_after.field-0.0 (sym c.is_end.ensures ∙ c.if-is_end.true) c.in_err-nothing_after.ensures)
 
 pub returns-then-is_end-clause-given : goal.returns-then-is_end-clause-given
 returns-then-is_end-clause-given c = at_end c.args.header.now c.loop-front.line c.loop-front.seen c.loop-front.lines.items c.loop-front.rest.now _ c.loop-front.invariant.whole
-    c.in-Some.front.now c.in-Some.after.now c.in-Some.ensures.parts (sym c.is_end.ensures ∙ c.if-is_end.true) c.in_ok-nothing_after.ensures
+    c.in-Some.front.now c.in-Some.after.now c.in-Some.ensures.parts (sym c.is_end.ensures ∙ c.if-is_end.true)
 
 pub returns-in_err-command-clause-given : goal.returns-in_err-command-clause-given
 returns-in_err-command-clause-given c =
