@@ -1,9 +1,8 @@
 //! The program: `eleos replay`, `eleos run` and `eleos gcm`.
 #![tactic(auto)]
 
-use eleos_base::{Status, StdSink, StdSource};
+use eleos_base::{Gate, Status, StdSink, StdSource};
 use eleos_host::{SharedHost, ToldHost};
-use eleos_run::Gate;
 use eleos_top::main_top;
 use std::process::ExitCode;
 use std::{env, io};

@@ -8,7 +8,7 @@ use Rattle.eleos_machine.specs.Closing.{hands_of}
 use Rattle.eleos_machine.specs.Passes.{PassState}
 use Rattle.eleos_trace.specs.declared.trace.Line.{Line}
 use Rattle.eleos_trace.specs.Kinds.{IsRun}
-use Rattle.eleos_core.specs.Parts.{Part, Stamp}
+use Rattle.eleos_core.specs.Parts.{Part, Stamp, Made}
 use Rattle.eleos_machine.specs.Machines.{IsMachine, Site, plan_at}
 use Rattle.eleos_plot.specs.declared.plot.Ground.{Ground}
 use Rattle.eleos_plot.specs.Terms.{core_terms}
@@ -16,13 +16,13 @@ use Rattle.eleos_trace.specs.declared.trace.Trace.{Trace}
 use Rattle.eleos_turn.specs.Hands.{HandState, dealt, entries, fresh}
 use Rattle.eleos_run.specs.declared.jobs.Job.{Job}
 use Rattle.eleos_run.specs.Callers.{AreDoneJobs, AreNewJobs, IsDoneJob, IsNewJob, lines_of}
-use Rattle.eleos_run.specs.Exchanges.{AreExchanged}
+use Rattle.eleos_pages.specs.Exchanges.{AreExchanged}
 use Rattle.eleos_run.specs.Jobs.{HasRun, IsReadyJob, commands_of, names_of}
 use Rattle.eleos_run.specs.Lines.{commands_by, is_by, program}
-use Rattle.eleos_run.specs.Programs.{Tells, TellsAll}
-use Rattle.eleos_run.specs.Table.{AnySaid, Ends, Gives, lines_for}
+use Rattle.eleos_meaning.specs.Programs.{Tells, TellsAll}
+use Rattle.eleos_meaning.specs.Table.{AnySaid, Ends, Gives, lines_for}
 use Rattle.eleos_base.specs.Plans.{enclave_of}
-use Rattle.eleos_run.specs.Told.{Made, line_of, made_in}
+use Rattle.eleos_meaning.specs.Told.{line_of, made_in}
 use Rattle.eleos_run.proofs.LineCounts.{lines_one}
 use Rattle.eleos_report.specs.declared.line.LogLine.{LogLine}
 use Rattle.eleos_trace.specs.declared.word.Actor.{Actor}
@@ -30,7 +30,7 @@ use Rattle.eleos_trace.specs.declared.word.Actor.TheVariants.{Caller}
 use Rattle.eleos_trace.specs.declared.word.Word.{Word}
 use Rattle.eleos_run.specs.declared.tasks.Task.{Task}
 use Rattle.eleos_run.specs.Tasks.{AllReady}
-use Rattle.eleos_run.specs.Names.{Names, opening_names}
+use Rattle.eleos_meaning.specs.Names.{Names, opening_names}
 
 module _ {P : Type 0} where
   -- each is ready
@@ -40,8 +40,8 @@ module _ {P : Type 0} where
   new_at trace z who (i ∷ js) new (suc k) j inside = new_at trace z (who + 1) js new.1 k j (omega (arith, inside))
 
 -- nothing stands behind the last command
-ended : {home : ℕ} {who : Actor} {st : Names} {words : List Word} {lines : List LogLine} {made : List Made} {after : Names} → Tells (Gives AnySaid home) who st words lines made after → TellsAll (Gives AnySaid home) Ends who st words lines made
-ended {who = who} t = record {
+ended : (k : Plan) {home : ℕ} {who : Actor} {st : Names} {words : List Word} {lines : List LogLine} {made : List Made} {after : Names} → Tells (Gives AnySaid k home) who st words lines made after → TellsAll (Gives AnySaid k home) Ends who st words lines made
+ended k {who = who} t = record {
   told = t.told;
   last = [];
   after = _;
@@ -63,7 +63,7 @@ module _ {P : Type 0} (gave took : ℕ → List ℕ → Type 0) where
         number = run.told.goes.number ∙ number;
         turns = run.idle.turns;
         few = let few = run.few in let same = ap lines_for new.commands in omega (arith, few, same);
-        mine = subst (λ (q : ((ℕ × Names) × List Word) × List Made). TellsAll (Gives AnySaid (enclave_of (plan_at z) q.0.0.0)) Ends (Caller q.0.0.0) q.0.0.1 q.0.1 j.lines.items q.1) (λ t. (((number t, new.names t), new.commands t), made t)) (ended run.told.tells);
+        mine = subst (λ (q : ((ℕ × Names) × List Word) × List Made). TellsAll (Gives AnySaid (plan_at z) (enclave_of (plan_at z) q.0.0.0)) Ends (Caller q.0.0.0) q.0.0.1 q.0.1 j.lines.items q.1) (λ t. (((number t, new.names t), new.commands t), made t)) (ended (plan_at z) run.told.tells);
         exchanged = subst (AreExchanged gave took z j.pass.hand.seen) made run.told.exchanged;
       }
 
@@ -86,7 +86,7 @@ commands_few who (line ∷ lines) = go (is_by who line.actor) (commands_few who 
 module _ {P : Type 0} where
   -- a job with all that its caller needs
   pub new_job : (trace : Trace) (z : Site) (j : Job P) → IsRun trace → IsMachine z → z.base.grounds.plan ≡ trace.plan → IsCaller trace.plan j.pass.hand.number → j.pass.hand ≡ fresh z j.pass.hand.number
-      → AllReady j.names.rooms.entries j.tasks.items → commands_of j.tasks.items ≡ program trace j.pass.hand.number → names_of j ≡ opening_names trace j.pass.hand.number → j.lines.items ≡ [] → length j.tasks.items ≤ vec_capacity j.lines
+      → AllReady j.names j.tasks.items → commands_of j.tasks.items ≡ program trace j.pass.hand.number → names_of j ≡ opening_names trace j.pass.hand.number → j.lines.items ≡ [] → length j.tasks.items ≤ vec_capacity j.lines
       → IsNewJob trace z j.pass.hand.number j
   new_job trace z j run machine plan caller unused ready commands names empty room =
       let long : length j.tasks.items ≡ length (commands_of j.tasks.items) = sym (length-map j.tasks.items (λ (t : Task). t.command)) in
@@ -114,6 +114,7 @@ module _ {P : Type 0} where
         names = names;
       }
 
+  -- behind the new jobs of callers in order comes that of the caller with the next number
   pub new_snoc : (trace : Trace) (z : Site) (a k : ℕ) (js : List (Job P)) (j : Job P) → k ≡ a + length js + 1 → AreNewJobs trace z a js → IsNewJob trace z k j → AreNewJobs trace z a (js ++ j ∷ [])
   new_snoc trace z a k [] j is new one = (subst (λ (n : ℕ). IsNewJob trace z n j) (let e : k ≡ a + 1 = omega (arith, is) in e) one, tt)
   new_snoc trace z a k (i ∷ is) j e new one = (new.0, new_snoc trace z (a + 1) k is j (omega (arith, e)) new.1 one)
@@ -140,6 +141,7 @@ dealt_long : (z : Site) (a n : ℕ) → length (dealt {D = Stamp} z a n) ≡ n
 dealt_long z a zero = refl
 dealt_long z a (suc n) = let r = dealt_long z (a + 1) n in omega (arith, r)
 
+-- there are as many passes as hands were dealt
 pub all_dealt : (z : Site) (a n : ℕ) (ss : List PassState) → hands_of ss ≡ dealt z a n → length ss ≡ n
 all_dealt z a n ss is = sym (length-map ss (λ (s : PassState). s.hand)) ∙ (ap length is ∙ dealt_long z a n)
 
@@ -163,6 +165,7 @@ module _ {P : Type 0} where
 pub some_passes : (z : Site) (n : ℕ) (ss : List PassState) → hands_of ss ≡ dealt z 0 (n + 2) → length ss ≡ n + 2
 some_passes z n ss is = all_dealt z 0 (n + 2) ss is
 
+-- of n + 2 fresh passes in order, the last two have the numbers n + 1 and n + 2, and the first n are left
 pub popped : (z : Site) (n : ℕ) (ps ps₁ ps₂ : List PassState) (b s : PassState) → ps ≡ ps₁ ++ b ∷ [] → ps₁ ≡ ps₂ ++ s ∷ [] → hands_of ps ≡ dealt z 0 (n + 2)
     → (hands_of ps₂ ≡ dealt z 0 n) × (s.hand ≡ fresh z (n + 1)) × (b.hand ≡ fresh z (n + 1 + 1))
 popped z n ps ps₁ ps₂ b s e f is =

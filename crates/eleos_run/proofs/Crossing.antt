@@ -10,13 +10,13 @@ use Rattle.eleos_core.specs.declared.event.Entry.{Entry}
 use Rattle.eleos_core.specs.declared.event.Event as events
 use Rattle.eleos_core.specs.declared.event.Event.TheVariants.{Op as ACall}
 use Rattle.eleos_core.specs.Applying.{puts_of}
-use Rattle.eleos_core.specs.Parts.{Stamp}
-use Rattle.eleos_core.specs.Places.{all_subs, sub_of}
+use Rattle.eleos_core.specs.Parts.{Stamp, Made, Entries}
+use Rattle.eleos_base.specs.Places.{all_subs, sub_of}
 use Rattle.eleos_core.specs.Seals.{Seals}
 use Rattle.eleos_core.specs.State.{History, entry, is_present, is_sealed, is_sealing, last, places}
 use Rattle.eleos_direct.specs.Accesses.{HasAccessed}
-use Rattle.eleos_direct.specs.Entered.{Enters}
-use Rattle.eleos_direct.specs.Held.{access_stamp}
+use Rattle.eleos_pages.specs.Entered.{Enters}
+use Rattle.eleos_pages.specs.Held.{access_stamp}
 use Rattle.eleos_host.specs.declared.port.HostPort.{Ghosts}
 use Rattle.eleos_host.specs.declared.port.HostStore as store
 use Rattle.eleos_host.specs.Taps.{TapState}
@@ -27,53 +27,22 @@ use Rattle.eleos_plot.specs.Terms.{core_terms}
 use Rattle.eleos_trace.specs.declared.word.Word.{Word}
 use Rattle.eleos_turn.proofs.Clients.{goes_same}
 use Rattle.eleos_run.specs.declared.answers.Spoken.{Spoken}
-use Rattle.eleos_run.specs.Exchanges.{AreExchanged, AreGiven, Exchanges, HasExchanged}
-use Rattle.eleos_run.specs.Lines.{Entries}
-use Rattle.eleos_run.specs.Names.{Names}
+use Rattle.eleos_pages.specs.Exchanges.{AreExchanged, AreGiven, Exchanges, HasExchanged}
+use Rattle.eleos_meaning.specs.Names.{Names}
 use Rattle.eleos_run.specs.Steps.{AreOnBlocks, HasMadeOnBlocks, IsOnBlocks, Speaks}
-use Rattle.eleos_run.specs.Told.{Made, made_of}
+use Rattle.eleos_meaning.specs.Told.{made_of}
 use Rattle.eleos_run.proofs.Meanings.{IsBlockWord, means_on}
 use Rattle.eleos_plot.specs.Histories.{history_of}
-use Rattle.eleos_run.proofs.Exchanging.{exchanged_last, exchanges_these}
-
--- ---- entries that seal nothing
-
-abbrev IsNoWrite : Op → Type 0
-IsNoWrite (ops.Write at bytes) = ⊥
-IsNoWrite _ = Unit {0}
-
-drop_false : (a b : Bool) → ((a && false) && b) ≡ false
-drop_false true b = refl
-drop_false false b = refl
-
-nothing_in : (f : ℕ → Bool) (xs : List ℕ) → ((s : ℕ) → f s ≡ false) → filter f xs ≡ []
-nothing_in f [] none = refl
-nothing_in f (x ∷ xs) none = ap (λ (b : Bool). cond b (x ∷ filter f xs) (filter f xs)) (none x) ∙ nothing_in f xs none
-
-seals_nothing : (k : Plan) (past : History) (who : ℕ) (op : Op) (blocks : List (List ℕ)) (reply : Reply) → IsNoWrite op → (s : ℕ) → is_sealing k (entry who (ACall op) blocks reply) past s ≡ false
-seals_nothing k past who (ops.Alloc n) blocks reply quiet s = drop_false _ _
-seals_nothing k past who (ops.Free at) blocks reply quiet s = drop_false _ _
-seals_nothing k past who (ops.Share at) blocks reply quiet s = drop_false _ _
-seals_nothing k past who (ops.Read at n) blocks reply quiet s = drop_false _ _
-seals_nothing k past who (ops.Write at bytes) blocks reply quiet s = absurd quiet
+use Rattle.eleos_pages.proofs.Crossing.{entry_exchanges, given_at, none_given, none_taken}
+use Rattle.eleos_pages.proofs.Exchanging.{exchanges_these}
 
 -- ---- calls on blocks
 
 module _ (gave took : ℕ → List ℕ → Type 0) where
-  none_given : (ss : List ℕ) → AreGiven gave took ss []
-  none_given [] = tt
-  none_given (s ∷ ss) = tt
-
-  none_taken : (k : Plan) (x : Seals) (past : History) (who : ℕ) (op : Op) (blocks : List (List ℕ)) (reply : Reply) → IsNoWrite op
-      → AllByRecursion (λ (q : ℕ × List ℕ). took q.0 q.1) (puts_of k x (entry who (ACall op) blocks reply) past)
-  none_taken k x past who op blocks reply quiet =
-      let e : Entry = entry who (ACall op) blocks reply in
-      subst (λ (ss : List ℕ). AllByRecursion (λ (q : ℕ × List ℕ). took q.0 q.1) (map (λ s. (s, last k x (e ∷ past) s)) ss)) (sym (nothing_in (is_sealing k e past) (all_subs k) (seals_nothing k past who op blocks reply quiet))) tt
-
   block_exchanged : (k : Plan) (x : Seals) (past : History) (who : ℕ) (op : Op) (blocks : List (List ℕ)) (reply : Reply) → IsOnBlocks op → HasExchanged gave took k x past (entry who (ACall op) blocks reply)
-  block_exchanged k x past who (ops.Alloc n) blocks reply on = record { given = tt; taken = none_taken k x past who (ops.Alloc n) blocks reply tt }
-  block_exchanged k x past who (ops.Free at) blocks reply on = record { given = tt; taken = none_taken k x past who (ops.Free at) blocks reply tt }
-  block_exchanged k x past who (ops.Share at) blocks reply on = record { given = tt; taken = none_taken k x past who (ops.Share at) blocks reply tt }
+  block_exchanged k x past who (ops.Alloc n) blocks reply on = record { given = tt; taken = none_taken gave took k x past who (ops.Alloc n) blocks reply tt }
+  block_exchanged k x past who (ops.Free at) blocks reply on = record { given = tt; taken = none_taken gave took k x past who (ops.Free at) blocks reply tt }
+  block_exchanged k x past who (ops.Share at) blocks reply on = record { given = tt; taken = none_taken gave took k x past who (ops.Share at) blocks reply tt }
   block_exchanged k x past who (ops.Read at n) blocks reply on = absurd on
   block_exchanged k x past who (ops.Write at bytes) blocks reply on = absurd on
 
@@ -88,43 +57,28 @@ module _ (gave took : ℕ → List ℕ → Type 0) where
     on_blocks_exchange s s' q = exchanges_these gave took z s s' q.made q.goes (made_exchanged q.made s'.hand.seen q.on)
 
     -- a command on a block
-    pub block_exchanges : (home : ℕ) (command : Word) (said : Spoken) (s s' : PassState) (names names' : Names) → IsBlockWord command → Speaks home command [] said s s' names names' → Exchanges gave took z s s'
-    block_exchanges home command said s s' names names' on speaks =
-        on_blocks_exchange s s' (record { made = made_of speaks.came; goes = speaks.has_made.goes; on = means_on names command speaks.came on speaks.gives.2 })
-
-    -- nothing was done
-    pub nothing_exchanges : (s : PassState) → Exchanges gave took z s s
-    nothing_exchanges s = exchanges_these gave took z s s [] (goes_same core_terms s.hand) tt
-
-    entry_exchanges : (s s' : PassState) (d : Stamp) (enters : Enters s d s') → HasExchanged gave took (plan_at z) (seals_at z) enters.past d.entry → Exchanges gave took z s s'
-    entry_exchanges s s' d enters one = exchanges_these gave took z s s' ((length enters.past, d) ∷ []) enters.goes (exchanged_last gave took z s'.hand.seen d enters.past enters.sees one)
+    pub block_exchanges : (command : Word) (said : Spoken) (s s' : PassState) (names names' : Names) → IsBlockWord command → Speaks z command [] said s s' names names' → Exchanges gave took z s s'
+    block_exchanges command said s s' names names' on speaks =
+        on_blocks_exchange s s' (record { made = made_of speaks.came; goes = speaks.has_made.goes; on = means_on (plan_at z) names command speaks.came on speaks.gives.2 })
 
     -- a read that is out of range
-    pub refused_exchanges : (s s' : PassState) (at : Addr) (n : ℕ) (reply : Reply) → Enters s (access_stamp s (ops.Read at n) [] reply) s' → Exchanges gave took z s s'
-    refused_exchanges s s' at n reply enters = entry_exchanges s s' (access_stamp s (ops.Read at n) [] reply) enters
-        (record { given = none_given (places (plan_at z) (ACall (ops.Read at n)) enters.past); taken = none_taken (plan_at z) (seals_at z) enters.past s.hand.number (ops.Read at n) [] reply tt })
+    pub refused_exchanges : (s s' : PassState) (at : Addr) (n : ℕ) (reply : Reply) → Enters s (access_stamp s (ops.Read at n) [] reply) [] s' → Exchanges gave took z s s'
+    refused_exchanges s s' at n reply enters = entry_exchanges gave took z s s' (access_stamp s (ops.Read at n) [] reply) [] enters
+        (record { given = none_given gave took (places (plan_at z) (ACall (ops.Read at n)) enters.past); taken = none_taken gave took (plan_at z) (seals_at z) enters.past s.hand.number (ops.Read at n) [] reply tt })
 
 -- ---- accesses
-
-module _ (gave took : ℕ → List ℕ → Type 0) where
-  given_at : (place : ℕ) (f : ℕ → Bool) (is_there is_kept : Bool) (blocks : List (List ℕ)) → f place ≡ is_kept → AllByRecursion (λ (q : ℕ × List ℕ). gave q.0 q.1) (at_place place blocks)
-      → AreGiven gave took (cond is_there [] (filter f (place ∷ []))) blocks
-  given_at place f true kept blocks is all = tt
-  given_at place f false kept [] is all = none_given gave took (filter f (place ∷ []))
-  given_at place f false false (block ∷ blocks) is all = subst (λ (b : Bool). AreGiven gave took (cond b (place ∷ []) []) (block ∷ blocks)) (sym is) tt
-  given_at place f false true (block ∷ blocks) is all = subst (λ (b : Bool). AreGiven gave took (cond b (place ∷ []) []) (block ∷ blocks)) (sym is) (all.0, tt)
 
 module _ {P : Type 0} (port : Ghosts P) (host : store.Ghosts P) where
   -- a read
   pub read_exchanges : (s s' : PassState) (before : TapState P) (at : Addr) (n : ℕ) (reply : Reply) (tap : TapState P) (z : Site) → s.hand.home ≡ z → HasAccessed port host s before at (ops.Read at n) reply s' tap → Exchanges port.gave port.took z s s'
   read_exchanges s s' before at n reply tap z home a = let k : Plan = plan_of s in let past : History = a.entered.past in
       subst (λ (q : Site). Exchanges port.gave port.took q s s') home
-      (entry_exchanges port.gave port.took s.hand.home s s' (access_stamp s (ops.Read at n) (came tap) reply) a.entered
+      (entry_exchanges port.gave port.took s.hand.home s s' (access_stamp s (ops.Read at n) (came tap) reply) [] a.entered
       (record { given = given_at port.gave port.took (sub_of k at) (is_sealed k past) (is_present k past (sub_of k at)) (is_sealed k past (sub_of k at)) (came tap) refl a.crossed.gave; taken = a.crossed.took }))
 
   -- a write
   pub write_exchanges : (s s' : PassState) (before : TapState P) (at : Addr) (bytes : List ℕ) (reply : Reply) (tap : TapState P) (z : Site) → s.hand.home ≡ z → HasAccessed port host s before at (ops.Write at bytes) reply s' tap → Exchanges port.gave port.took z s s'
   write_exchanges s s' before at bytes reply tap z home a = let k : Plan = plan_of s in let past : History = a.entered.past in
       subst (λ (q : Site). Exchanges port.gave port.took q s s') home
-      (entry_exchanges port.gave port.took s.hand.home s s' (access_stamp s (ops.Write at bytes) (came tap) reply) a.entered
+      (entry_exchanges port.gave port.took s.hand.home s s' (access_stamp s (ops.Write at bytes) (came tap) reply) [] a.entered
       (record { given = given_at port.gave port.took (sub_of k at) (is_sealed k past) (is_present k past (sub_of k at)) (is_sealed k past (sub_of k at)) (came tap) refl a.crossed.gave; taken = a.crossed.took }))

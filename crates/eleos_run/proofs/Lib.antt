@@ -1,9 +1,6 @@
 pub mod Tellings
 pub mod Each
-pub mod HeaderBlocks
-pub mod NameTables
 pub mod Speaking
-pub mod Exchanging
 pub mod Crossing
 pub mod Meanings
 pub mod TaskLists

@@ -10,7 +10,7 @@ use Rattle.eleos_trace.specs.declared.word.Word.{Word}
 use Rattle.eleos_run.specs.declared.jobs.Job.{Job}
 use Rattle.eleos_run.specs.Callers.{AreDoneJobs, lines_of}
 use Rattle.eleos_run.specs.Lines.{commands_by, is_by}
-use Rattle.eleos_run.specs.Table.{lines_for}
+use Rattle.eleos_meaning.specs.Table.{lines_for}
 
 -- the commands of the n callers with the numbers above a
 abbrev pub all_by : ℕ → ℕ → List Line → ℕ
@@ -67,5 +67,6 @@ module _ {P : Type 0} (gave took : ℕ → List ℕ → Type 0) where
   done_by trace z a (j ∷ js) done = let rest = done_by trace z (a + 1) js done.1 in let both = length-append j.lines.items (lines_of js) in
       let few = done.0.few in let one = lines_one (commands_by (a + 1) trace.lines) in omega (arith, rest, both, few, one)
 
+  -- the callers' lines together are no more than the lines of the trace
   pub lines_few : (trace : Trace) (z : Site) (js : List (Job P)) → AreDoneJobs gave took trace z 0 js → length (lines_of js) ≤ length trace.lines
   lines_few trace z js done = let is = done_by trace z 0 js done in let few = all_few (length js) trace.lines in omega (arith, is, few)

@@ -1,28 +1,31 @@
 -- What lines mean, by the table.
-use Rattle.std.proofs.Common.{◌≡◌, ℕ, List, [], Bool, true, false, not, Option, Some, None, is_some, option_map, if◌then◌else◌, refl, sym, ap, ◌∙◌}
+use Rattle.std.proofs.Common.{◌≡◌, ℕ, List, [], ◌∷◌, map, Bool, true, false, not, ◌&&◌, Option, Some, None, is_some, if◌then◌else◌, refl, sym, ap, ◌∙◌}
 use Rattle.eleos_base.specs.declared.memory.Addr.{Addr}
 use Rattle.eleos_base.specs.declared.memory.Op.{Op}
 use Rattle.eleos_base.specs.declared.memory.Op.TheVariants as ops
 use Rattle.eleos_base.specs.declared.memory.Reply.{Reply}
 use Rattle.eleos_base.specs.declared.memory.Reply.TheVariants as replies
+use Rattle.eleos_base.specs.declared.plan.Plan.{Plan}
 use Rattle.eleos_base.specs.Plain as plain
 use Rattle.eleos_base.specs.Plans.{enclave_of, sub_bytes}
 use Rattle.eleos_alloc.specs.Calls.{HasCalled}
 use Rattle.eleos_core.specs.declared.event.Event.{Event}
 use Rattle.eleos_core.specs.declared.event.Event.TheVariants as events
-use Rattle.eleos_core.specs.Places.{subs}
+use Rattle.eleos_base.specs.Places.{subs}
 use Rattle.eleos_core.specs.State.{live}
 use Rattle.eleos_machine.specs.Machines.{Site, plan_at}
 use Rattle.eleos_machine.specs.Passes.{PassState, plan_of}
 use Rattle.eleos_report.specs.declared.answer.Answer.{Answer}
 use Rattle.eleos_report.specs.declared.answer.Answer.TheVariants.{Skipped}
 use Rattle.eleos_trace.specs.declared.word.Word.{Word}
-use Rattle.eleos_trace.specs.declared.word.Word.TheVariants.{Alloc, Free, Share, Read, Write, Tie, Untie, Fill, Evict, Move, Flip, SwapPlaces, Keep, Restore}
-use Rattle.eleos_run.specs.Calls.{answer_of, at_offset}
-use Rattle.eleos_run.specs.Names.{Names}
+use Rattle.eleos_trace.specs.declared.word.Word.TheVariants.{Alloc, Free, Share, Read, Write}
+use Rattle.eleos_meaning.specs.Calls.{answer_of, at_offset}
+use Rattle.eleos_meaning.specs.declared.meanings.Meaning.TheVariants.{Happens}
+use Rattle.eleos_meaning.specs.Meanings.{at_name, event_of, is_illegal, meaning_at}
+use Rattle.eleos_meaning.specs.Names.{Names}
 use Rattle.eleos_run.specs.Steps.{AreOnBlocks, home_of}
-use Rattle.eleos_run.specs.Table.{Means, is_skipped, named_row, resolve, when}
-use Rattle.eleos_run.specs.Told.{Came, Entered, Replied, made_of}
+use Rattle.eleos_meaning.specs.Table.{Means, bind, is_none, is_skipped, named_row, next, resolve, shown, when}
+use Rattle.eleos_meaning.specs.Told.{Came, Entered, Replied, Told, answer_in, made_of}
 
 -- ---- events
 
@@ -37,26 +40,34 @@ some_is a b is = ap (or_else a) is
 not_some : (e : Event) → None ≡ Some e → ⊥
 not_some e is = cc
 
-pub mapped : (f : Addr → Op) (found : Option Addr) (event : Event) → option_map (λ at. events.Op (f at)) found ≡ Some event → (at : Addr) × (event ≡ events.Op (f at))
-mapped f None event is = absurd (not_some event is)
-mapped f (Some at) event is = (at, sym (some_is (events.Op (f at)) event is))
+-- a name's event is a call at its address
+called : (f : Addr → Op) (found : Option Addr) (is_not : Bool) (event : Event) → (if is_not then None else event_of (at_name (λ at. Happens (events.Op (f at))) found)) ≡ Some event → (at : Addr) × (event ≡ events.Op (f at))
+called f found true event is = absurd (not_some event is)
+called f None false event is = absurd (not_some event is)
+called f (Some at) false event is = (at, sym (some_is (events.Op (f at)) event is))
 
--- each event that a command means is a call
-pub resolve_calls : (names : Names) (word : Word) (reply : Answer) (event : Event) → resolve names word reply ≡ Some event → (op : Op) × (event ≡ events.Op op)
-resolve_calls names (Alloc name bytes) reply event is = (ops.Alloc bytes, sym (some_is (events.Op (ops.Alloc bytes)) event is))
-resolve_calls names (Free name) reply event is = let m = mapped (λ at. ops.Free at) (names name) event is in (ops.Free m.0, m.1)
-resolve_calls names (Share name) reply event is = let m = mapped (λ at. ops.Share at) (names name) event is in (ops.Share m.0, m.1)
-resolve_calls names (Read name offset len) reply event is = let m = mapped (λ at. ops.Read (at_offset at offset) len) (names name) event is in (ops.Read (at_offset m.0 offset) len, m.1)
-resolve_calls names (Write name offset bytes) reply event is = let m = mapped (λ at. ops.Write (at_offset at offset) bytes) (names name) event is in (ops.Write (at_offset m.0 offset) bytes, m.1)
-resolve_calls names (Tie name offset) reply event is = absurd (not_some event is)
-resolve_calls names (Untie name offset) reply event is = absurd (not_some event is)
-resolve_calls names (Fill page frame) reply event is = absurd (not_some event is)
-resolve_calls names (Evict page frame) reply event is = absurd (not_some event is)
-resolve_calls names (Move frame from to) reply event is = absurd (not_some event is)
-resolve_calls names (Flip place bit) reply event is = absurd (not_some event is)
-resolve_calls names (SwapPlaces a b) reply event is = absurd (not_some event is)
-resolve_calls names (Keep place) reply event is = absurd (not_some event is)
-resolve_calls names (Restore place) reply event is = absurd (not_some event is)
+-- an event without a name is this one
+alone_is : (op : Op) (is_not : Bool) (event : Event) → (if is_not then None else Some (events.Op op)) ≡ Some event → event ≡ events.Op op
+alone_is op true event is = absurd (not_some event is)
+alone_is op false event is = sym (some_is (events.Op op) event is)
+
+-- a command of a run
+abbrev pub IsRunWord : Word → Type 0
+IsRunWord (Alloc name bytes) = Unit {0}
+IsRunWord (Free name) = Unit {0}
+IsRunWord (Share name) = Unit {0}
+IsRunWord (Read name offset len) = Unit {0}
+IsRunWord (Write name offset bytes) = Unit {0}
+IsRunWord _ = ⊥
+
+-- the event that such a command means is a call
+pub resolve_calls : (k : Plan) (names : Names) (word : Word) (reply : Answer) (event : Event) → IsRunWord word → resolve k names word reply ≡ Some event → (op : Op) × (event ≡ events.Op op)
+resolve_calls k names (Alloc name bytes) reply event run is = (ops.Alloc bytes, alone_is (ops.Alloc bytes) (is_illegal reply) event is)
+resolve_calls k names (Free name) reply event run is = let m = called (λ at. ops.Free at) (names name) (is_illegal reply) event is in (ops.Free m.0, m.1)
+resolve_calls k names (Share name) reply event run is = let m = called (λ at. ops.Share at) (names name) (is_illegal reply) event is in (ops.Share m.0, m.1)
+resolve_calls k names (Read name offset len) reply event run is = let m = called (λ at. ops.Read (at_offset at offset) len) (names name) (is_illegal reply) event is in (ops.Read (at_offset m.0 offset) len, m.1)
+resolve_calls k names (Write name offset bytes) reply event run is = let m = called (λ at. ops.Write (at_offset at offset) bytes) (names name) (is_illegal reply) event is in (ops.Write (at_offset m.0 offset) bytes, m.1)
+resolve_calls k names _ reply event run is = absurd run
 
 -- a command on blocks made no other entries
 abbrev pub IsBlockWord : Word → Type 0
@@ -65,38 +76,66 @@ IsBlockWord (Free name) = Unit {0}
 IsBlockWord (Share name) = Unit {0}
 IsBlockWord _ = ⊥
 
-pub means_on : (names : Names) (word : Word) (came : Came) → IsBlockWord word → Means names word came → AreOnBlocks (made_of came)
-means_on names word (Replied reply) on m = tt
-means_on names (Alloc name bytes) (Entered one puts) on m = ((ops.Alloc bytes, sym (some_is (events.Op (ops.Alloc bytes)) one.1.entry.event m), tt), tt)
-means_on names (Free name) (Entered one puts) on m = let q = mapped (λ at. ops.Free at) (names name) one.1.entry.event m in ((ops.Free q.0, q.1, tt), tt)
-means_on names (Share name) (Entered one puts) on m = let q = mapped (λ at. ops.Share at) (names name) one.1.entry.event m in ((ops.Share q.0, q.1, tt), tt)
-means_on names _ (Entered one puts) on m = absurd on
+-- what an alloc, a free or a share came to is a call on blocks, or no entry
+pub means_on : (k : Plan) (names : Names) (word : Word) (came : Came) → IsBlockWord word → Means k names word came → AreOnBlocks (made_of came)
+means_on k names word (Replied reply) on m = tt
+means_on k names (Alloc name bytes) (Entered one puts) on m = ((ops.Alloc bytes, alone_is (ops.Alloc bytes) (is_illegal (answer_in (Entered one puts))) one.1.entry.event m, tt), tt)
+means_on k names (Free name) (Entered one puts) on m = let q = called (λ at. ops.Free at) (names name) (is_illegal (answer_in (Entered one puts))) one.1.entry.event m in ((ops.Free q.0, q.1, tt), tt)
+means_on k names (Share name) (Entered one puts) on m = let q = called (λ at. ops.Share at) (names name) (is_illegal (answer_in (Entered one puts))) one.1.entry.event m in ((ops.Share q.0, q.1, tt), tt)
+means_on k names _ (Entered one puts) on m = absurd on
+
+-- at the address of its name a command means this
+pub means_at : (k : Plan) (word : Word) (found : Option Addr) (at : Addr) → found ≡ Some at → event_of (at_name (meaning_at k word) found) ≡ event_of (meaning_at k word at)
+means_at k word found at is = ap (λ (f : Option Addr). event_of (at_name (meaning_at k word) f)) is
+
+-- and nothing without one
+pub means_none : (k : Plan) (word : Word) (found : Option Addr) → found ≡ None → event_of (at_name (meaning_at k word) found) ≡ None
+means_none k word found is = ap (λ (f : Option Addr). event_of (at_name (meaning_at k word) f)) is
 
 -- ---- rows
 
--- no reply of a call is printed as skipped
-pub is_no_skip : (reply : Reply) (blocks : List (List ℕ)) → is_skipped (answer_of reply blocks) ≡ false
-is_no_skip (replies.Got at) blocks = refl
-is_no_skip replies.Done blocks = refl
-is_no_skip (replies.Text bytes) blocks = refl
-is_no_skip replies.BadSize blocks = refl
-is_no_skip replies.NoSpace blocks = refl
-is_no_skip replies.NotABlock blocks = refl
-is_no_skip replies.BadRange blocks = refl
-is_no_skip replies.Unallocated blocks = refl
-is_no_skip (replies.NotYours owner) blocks = refl
-is_no_skip (replies.Worn sub) blocks = refl
-is_no_skip (replies.NoFrame sweep) blocks = refl
-is_no_skip (replies.Tampered sub) blocks = refl
-is_no_skip (replies.Enough n) blocks = refl
-is_no_skip (replies.Swept n) blocks = refl
-is_no_skip (replies.Reached n) blocks = refl
-is_no_skip (replies.Pinned n) blocks = refl
-is_no_skip (replies.Short n) blocks = refl
+-- no reply of an entry is printed as skipped or as illegal
+pub is_reply : (reply : Reply) (blocks : List (List ℕ)) → (is_skipped (answer_of reply blocks) ≡ false) × (is_illegal (answer_of reply blocks) ≡ false)
+is_reply (replies.Got at) blocks = (refl, refl)
+is_reply replies.Done blocks = (refl, refl)
+is_reply (replies.Text bytes) blocks = (refl, refl)
+is_reply replies.BadSize blocks = (refl, refl)
+is_reply replies.NoSpace blocks = (refl, refl)
+is_reply replies.NotABlock blocks = (refl, refl)
+is_reply replies.BadRange blocks = (refl, refl)
+is_reply replies.Unallocated blocks = (refl, refl)
+is_reply (replies.NotYours owner) blocks = (refl, refl)
+is_reply (replies.Worn sub) blocks = (refl, refl)
+is_reply (replies.NoFrame sweep) blocks = (refl, refl)
+is_reply (replies.Tampered sub) blocks = (refl, refl)
+is_reply (replies.Enough n) blocks = (refl, refl)
+is_reply (replies.Swept n) blocks = (refl, refl)
+is_reply (replies.Reached n) blocks = (refl, refl)
+is_reply (replies.Pinned n) blocks = (refl, refl)
+is_reply (replies.Short n) blocks = (refl, refl)
 
+-- what a run's rows have on the way: nothing
+no_row : {A : Type 0} (after : A) → None ≡ Some after → ⊥
+no_row after is = cc
+
+alone : (way : List Told) (test : Bool) (names after : Names) → when (is_none (map shown way) && test) names ≡ Some after → way ≡ []
+alone [] test names after is = refl
+alone (told ∷ way) test names after is = absurd (no_row after is)
+
+-- a command whose lines these are is one of a run, and has its own line alone
+pub row_alone : (home : ℕ) (names : Names) (word : Word) (way : List Told) (reply : Answer) (after : Names) → next home names word (map shown way) reply ≡ Some after → (way ≡ []) × IsRunWord word
+row_alone home names (Alloc name bytes) way reply after is = (alone way (not (is_skipped reply)) (bind home name reply names) after is, tt)
+row_alone home names (Free name) way reply after is = (alone way (if is_some (names name) then not (is_skipped reply) else is_skipped reply) names after is, tt)
+row_alone home names (Share name) way reply after is = (alone way (if is_some (names name) then not (is_skipped reply) else is_skipped reply) names after is, tt)
+row_alone home names (Read name offset len) way reply after is = (alone way (if is_some (names name) then not (is_skipped reply) else is_skipped reply) names after is, tt)
+row_alone home names (Write name offset bytes) way reply after is = (alone way (if is_some (names name) then not (is_skipped reply) else is_skipped reply) names after is, tt)
+row_alone home names _ way reply after is = absurd (no_row after is)
+
+-- a command with a bound name, which was not skipped, leaves the names as they are
 pub bound_row : (found : Option Addr) (at : Addr) (reply : Answer) (names : Names) → found ≡ Some at → is_skipped reply ≡ false → named_row (is_some found) [] reply names ≡ Some names
 bound_row found at reply names is skips = λ i. when (if is_some (is i) then not (skips i) else skips i) names
 
+-- so does a skipped command whose name is not bound
 pub unbound_row : (found : Option Addr) (names : Names) → found ≡ None → named_row (is_some found) [] Skipped names ≡ Some names
 unbound_row found names is = λ i. when (if is_some (is i) then false else true) names
 

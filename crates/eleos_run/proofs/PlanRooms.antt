@@ -6,7 +6,8 @@ use Rattle.eleos_base.specs.declared.plan.BlockPlan.{BlockPlan}
 use Rattle.eleos_base.specs.declared.plan.Plan.{Plan}
 use Rattle.eleos_machine.specs.Judging.{AllFindRoom, CanBeMade, finds_room}
 use Rattle.eleos_trace.specs.declared.trace.Trace.{Trace}
-use Rattle.eleos_trace.specs.Blocks.{EachFindsRoom, has_space}
+use Rattle.eleos_base.specs.Rooms.{has_space}
+use Rattle.eleos_trace.specs.Blocks.{EachFindsRoom}
 use Rattle.eleos_trace.specs.Kinds.{IsRun}
 
 block_at : (before : List BlockPlan) (block : BlockPlan) (blocks : List BlockPlan) → slice_get (before ++ block ∷ blocks) (length before) ≡ Some block
@@ -15,7 +16,6 @@ block_at (x ∷ before) block blocks = block_at before block blocks
 
 -- both say of room the same
 one_room : (plan : Plan) (before : List BlockPlan) (block : BlockPlan) → has_space (record plan { blocks = before }) block.enclave block.bytes ≡ true → finds_room plan before block ≡ true
-unfolding has_space
 one_room plan before block room = room
 
 rooms_behind : (plan : Plan) (before blocks : List BlockPlan) → before ++ blocks ≡ plan.blocks → EachFindsRoom plan → AllFindRoom plan before blocks
@@ -27,5 +27,6 @@ rooms_behind plan before (block ∷ blocks) all each =
       rooms_behind plan (before ++ block ∷ []) blocks (append_assoc before (block ∷ []) blocks ∙ all) each,
     )
 
+-- a machine can be made of the plan of every trace of a run
 pub run_can_be_made : (trace : Trace) → IsRun trace → CanBeMade trace.plan
 run_can_be_made trace run = record { good = run.good; few_blocks = run.few_blocks; room = rooms_behind trace.plan [] trace.plan.blocks refl run.room }

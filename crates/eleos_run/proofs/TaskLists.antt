@@ -9,7 +9,7 @@ use Rattle.eleos_trace.specs.declared.word.Word.TheVariants.{Alloc, Free, Share,
 use Rattle.eleos_trace.specs.Kinds.{MayRun}
 use Rattle.eleos_run.specs.declared.tasks.Task.{Task}
 use Rattle.eleos_run.specs.Lines.{commands_by, is_by}
-use Rattle.eleos_run.specs.NameTable.{Rooms}
+use Rattle.eleos_meaning.specs.declared.names.NameTable.{NameTable}
 use Rattle.eleos_run.specs.Tasks.{AllReady, CanRun, HasName, IsReady, KeepsRooms}
 
 pub can_run : (plan : Plan) (who : actors.Actor) (word : Word) → MayRun plan who word → CanRun word
@@ -28,7 +28,7 @@ can_run plan who (SwapPlaces a b) may = may
 can_run plan who (Keep place) may = may
 can_run plan who (Restore place) may = may
 
-name_later : (old new : Rooms) (word : Word) → KeepsRooms old new → HasName old word → HasName new word
+name_later : (old new : NameTable) (word : Word) → KeepsRooms old new → HasName old word → HasName new word
 name_later old new (Alloc name bytes) keeps has = keeps name has
 name_later old new (Free name) keeps has = tt
 name_later old new (Share name) keeps has = tt
@@ -45,12 +45,12 @@ name_later old new (Keep place) keeps has = tt
 name_later old new (Restore place) keeps has = tt
 
 -- with more rooms the tasks are ready still
-pub ready_later : (old new : Rooms) (tasks : List Task) → KeepsRooms old new → AllReady old tasks → AllReady new tasks
+pub ready_later : (old new : NameTable) (tasks : List Task) → KeepsRooms old new → AllReady old tasks → AllReady new tasks
 ready_later old new [] keeps ready = tt
 ready_later old new (task ∷ tasks) keeps ready = (record { can = ready.0.can; room = ready.0.room; name = name_later old new task.command keeps ready.0.name }, ready_later old new tasks keeps ready.1)
 
 -- and one task more
-pub ready_more : (old new : Rooms) (tasks : List Task) (task : Task) → KeepsRooms old new → AllReady old tasks → IsReady new task → AllReady new (tasks ++ task ∷ [])
+pub ready_more : (old new : NameTable) (tasks : List Task) (task : Task) → KeepsRooms old new → AllReady old tasks → IsReady new task → AllReady new (tasks ++ task ∷ [])
 ready_more old new [] task keeps ready one = (one, tt)
 ready_more old new (other ∷ tasks) task keeps ready one = (record { can = ready.0.can; room = ready.0.room; name = name_later old new other.command keeps ready.0.name }, ready_more old new tasks task keeps ready.1 one)
 

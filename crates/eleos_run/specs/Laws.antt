@@ -2,7 +2,8 @@
 use Rattle.std.specs.Prelude.{ℕ, ◌+◌, ◌≤◌, List, [], ◌∷◌}
 use Rattle.eleos_report.specs.declared.line.LogLine.{LogLine}
 use Rattle.eleos_trace.specs.declared.trace.Trace.{Trace}
-use Rattle.eleos_run.specs.Lines.{Entries, stamps_in}
+use Rattle.eleos_run.specs.Lines.{stamps_in}
+use Rattle.eleos_core.specs.Parts.{Entries}
 use Rattle.eleos_run.specs.Runs.{AreLinesOf}
 
 -- the first number is n or above it, and each other one above the one before it

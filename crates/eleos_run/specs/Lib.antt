@@ -1,12 +1,6 @@
-pub mod Names
-pub mod NameTable
-pub mod Calls
 pub mod Lines
-pub mod Told
-pub mod Programs
-pub mod Table
 pub mod Steps
-pub mod Exchanges
+pub mod Counts
 pub mod Tasks
 pub mod Jobs
 pub mod Callers

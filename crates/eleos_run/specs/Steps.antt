@@ -10,9 +10,10 @@ use Rattle.eleos_plot.specs.Terms.{core_terms}
 use Rattle.eleos_trace.specs.declared.word.Word.{Word}
 use Rattle.eleos_turn.specs.Hands.{Goes}
 use Rattle.eleos_run.specs.declared.answers.Spoken.{Spoken}
-use Rattle.eleos_run.specs.Names.{Names}
-use Rattle.eleos_run.specs.Table.{AnySaid, Gives, most_lines}
-use Rattle.eleos_run.specs.Told.{Came, Made, Told, answer_in, made_in, made_of, stamp_in}
+use Rattle.eleos_meaning.specs.Names.{Names}
+use Rattle.eleos_meaning.specs.Table.{AnySaid, Gives, most_lines}
+use Rattle.eleos_meaning.specs.Told.{Came, Told, answer_in, made_in, made_of, stamp_in}
+use Rattle.eleos_core.specs.Parts.{Made}
 
 -- the pass is a caller's of this machine, and has no turn
 pub record IsIdle (z : Site) (s : PassState) : Type 0 where
@@ -25,18 +26,18 @@ pub record HasMade (s s' : PassState) (made : List Made) : Type 0 where
   pub goes : Goes core_terms s.hand s'.hand made
   pub turns : s'.hand.turns ≡ []
 
+-- the enclave of the pass's caller
+abbrev pub home_of : Site → PassState → ℕ
+home_of z s = enclave_of (plan_at z) s.hand.number
+
 -- what was spoken behind the command and told on its way is of the entries that the pass made for it, and the names have their addresses after it
-pub record Speaks (home : ℕ) (command : Word) (way : List Told) (said : Spoken) (s s' : PassState) (names names' : Names) : Type 0 where
+pub record Speaks (z : Site) (command : Word) (way : List Told) (said : Spoken) (s s' : PassState) (names names' : Names) : Type 0 where
   pub came : Came
   pub has_made : HasMade s s' (made_in way ++ made_of came)
   pub stamp_is : said.stamp ≡ stamp_in came
   pub reply_is : said.reply ≡ answer_in came
-  pub gives : Gives AnySaid home names command way came names'
+  pub gives : Gives AnySaid (plan_at z) (home_of z s) names command way came names'
   pub few : length way < most_lines command
-
--- the enclave of the pass's caller
-abbrev pub home_of : Site → PassState → ℕ
-home_of z s = enclave_of (plan_at z) s.hand.number
 
 -- the pass made these entries, all of them calls on blocks
 abbrev pub IsOnBlocks : Op → Type 0
@@ -44,10 +45,12 @@ IsOnBlocks (ops.Read at n) = ⊥
 IsOnBlocks (ops.Write at bytes) = ⊥
 IsOnBlocks _ = Unit {0}
 
+-- each of these entries is a call that neither reads nor writes
 abbrev pub AreOnBlocks : List Made → Type 0
 AreOnBlocks [] = Unit {0}
 AreOnBlocks (one ∷ made) = ((op : Op) × (one.1.entry.event ≡ events.Op op) × IsOnBlocks op) × AreOnBlocks made
 
+-- from s to s' the pass made these entries, each an alloc, a free or a share
 pub record HasMadeOnBlocks (s s' : PassState) : Type 0 where
   pub made : List Made
   pub goes : Goes core_terms s.hand s'.hand made

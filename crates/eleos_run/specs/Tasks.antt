@@ -4,7 +4,8 @@ use Rattle.std.specs.declared.alloc.Global.{Global}
 use Rattle.eleos_trace.specs.declared.word.Word.{Word}
 use Rattle.eleos_trace.specs.declared.word.Word.TheVariants.{Alloc, Free, Share, Read, Write}
 use Rattle.eleos_run.specs.declared.tasks.Task.{Task}
-use Rattle.eleos_run.specs.NameTable.{Rooms, has_room}
+use Rattle.eleos_meaning.specs.declared.names.NameTable.{NameTable}
+use Rattle.eleos_meaning.specs.NameTable.{has_room}
 
 -- a command that callers give in a run: their writes have at most 2,048 bytes
 abbrev pub CanRun : Word → Type 0
@@ -27,20 +28,21 @@ IsReadyFor (Write name offset bytes) room = IsRoom room
 IsReadyFor _ room = Unit {0}
 
 -- the name that an alloc binds has room
-abbrev pub HasName : Rooms → Word → Type 0
-HasName rooms (Alloc name bytes) = IsTrue (has_room rooms name)
-HasName rooms _ = Unit {0}
+abbrev pub HasName : NameTable → Word → Type 0
+HasName names (Alloc name bytes) = IsTrue (has_room names name)
+HasName names _ = Unit {0}
 
 -- all that a task needs
-pub record IsReady (rooms : Rooms) (task : Task) : Type 0 where
+pub record IsReady (names : NameTable) (task : Task) : Type 0 where
   pub can : CanRun task.command
   pub room : IsReadyFor task.command task.room
-  pub name : HasName rooms task.command
+  pub name : HasName names task.command
 
-abbrev pub AllReady : Rooms → List Task → Type 0
-AllReady rooms [] = Unit {0}
-AllReady rooms (task ∷ tasks) = IsReady rooms task × AllReady rooms tasks
+-- each of these tasks has all that it needs
+abbrev pub AllReady : NameTable → List Task → Type 0
+AllReady names [] = Unit {0}
+AllReady names (task ∷ tasks) = IsReady names task × AllReady names tasks
 
 -- each name that had room has room still
-abbrev pub KeepsRooms : Rooms → Rooms → Type 0
+abbrev pub KeepsRooms : NameTable → NameTable → Type 0
 KeepsRooms old new = (text : List ℕ) → IsTrue (has_room old text) → IsTrue (has_room new text)

@@ -1,27 +1,27 @@
 // What is printed behind a command.
 ghost use Rattle.std.specs.Prelude.{vec_capacity, ◌≡◌, ◌≤◌, [], IsTrue, length, Some, None};
-ghost use Rattle.eleos_alloc.specs.Calls.{block_reply};
-ghost use Rattle.eleos_direct.specs.Entered.{CanCall};
+ghost use Rattle.eleos_base.specs.Answers.{block_reply, access_refusal_reply, write_reply};
+ghost use Rattle.eleos_base.specs.Answers.{read_reply};
+ghost use Rattle.eleos_pages.specs.Entered.{CanCall};
 ghost use Rattle.eleos_host.specs.Taps.{failed_block};
 ghost use Rattle.eleos_machine.specs.Passes.{last_stamp};
-ghost use Rattle.eleos_pages.specs.Crossed.{came, last_of, spoiled_by};
-ghost use Rattle.eleos_pages.specs.Replies.{read_reply, refusal_reply, write_reply};
+ghost use Rattle.eleos_pages.specs.Crossed.{came, spoiled_by};
+ghost use Rattle.eleos_base.specs.Lists.{last_of};
 ghost use Rattle.eleos_plot.specs.Terms.{core_terms};
 ghost use Rattle.eleos_trace.specs.declared.word.Word.TheVariants as words;
 ghost use Rattle.eleos_turn.specs.Hands.{entries};
-ghost use Rattle.eleos_run.specs.Calls.{answer_of};
-ghost use Rattle.eleos_run.specs.Exchanges.{Exchanges};
-ghost use Rattle.eleos_run.specs.NameTable.{has_room, names_in};
-ghost use Rattle.eleos_run.specs.Steps.{Speaks, home_of};
+ghost use Rattle.eleos_meaning.specs.Calls.{answer_of};
+ghost use Rattle.eleos_pages.specs.Exchanges.{Exchanges};
+ghost use Rattle.eleos_meaning.specs.NameTable.{has_room, names_in};
+ghost use Rattle.eleos_run.specs.Steps.{Speaks};
 ghost use Rattle.eleos_run.specs.Tasks.{KeepsRooms};
 
-use crate::names::NameTable;
-use crate::offsets::at_offset;
 use eleos_alloc::{alloc, free, share};
 use eleos_base::{AccessRefused, AllocRefused, BlockRefused, List, SUB_BYTES, Sealer};
 use eleos_direct::{read, refuse_read, write};
 use eleos_host::{HostPort, Tap};
 use eleos_machine::{Machine, Pass};
+use eleos_meaning::{NameTable, at_offset};
 use eleos_report::Answer;
 use std::sync::Wait;
 
@@ -67,10 +67,10 @@ pub(crate) fn answer_alloc<S: Sealer, R: Wait>(
     bytes: u32,
 ) -> Spoken
     requires can { CanCall machine.now pass.old }
-    requires room { IsTrue (has_room names.old.rooms.entries name.now) }
-    ensures speaks { Speaks (home_of machine.now pass.old) (words.Alloc name.now bytes) [] result pass.old pass.new
-        (names_in names.old.rooms.entries) (names_in names.new.rooms.entries) }
-    ensures rooms { KeepsRooms names.old.rooms.entries names.new.rooms.entries }
+    requires room { IsTrue (has_room names.old name.now) }
+    ensures speaks { Speaks machine.now (words.Alloc name.now bytes) [] result pass.old pass.new
+        (names_in names.old) (names_in names.new) }
+    ensures rooms { KeepsRooms names.old names.new }
 {
     match alloc(rt, machine, pass, bytes) {
         Ok(at) => {
@@ -91,8 +91,8 @@ pub(crate) fn answer_free<S: Sealer, R: Wait>(
     name: &[u8],
 ) -> Spoken
     requires can { CanCall machine.now pass.old }
-    ensures { Speaks (home_of machine.now pass.old) (words.Free name.now) [] result pass.old pass.new
-        (names_in names.now.rooms.entries) (names_in names.now.rooms.entries) }
+    ensures { Speaks machine.now (words.Free name.now) [] result pass.old pass.new
+        (names_in names.now) (names_in names.now) }
 {
     let Some(at) = names.address_of(name) else {
         return skipped();
@@ -110,8 +110,8 @@ pub(crate) fn answer_share<S: Sealer, R: Wait>(
     name: &[u8],
 ) -> Spoken
     requires can { CanCall machine.now pass.old }
-    ensures { Speaks (home_of machine.now pass.old) (words.Share name.now) [] result pass.old pass.new
-        (names_in names.now.rooms.entries) (names_in names.now.rooms.entries) }
+    ensures { Speaks machine.now (words.Share name.now) [] result pass.old pass.new
+        (names_in names.now) (names_in names.now) }
 {
     let Some(at) = names.address_of(name) else {
         return skipped();
@@ -146,8 +146,8 @@ pub(crate) fn answer_read<S: Sealer, P: HostPort, R: Wait>(
     requires can { CanCall machine.now pass.old }
     requires empty { room.items ≡ [] }
     requires room { MOST_TEXT ≤ vec_capacity room }
-    ensures speaks { Speaks (home_of machine.now pass.old) (words.Read name.now offset len) [] result pass.old pass.new
-        (names_in names.now.rooms.entries) (names_in names.now.rooms.entries) }
+    ensures speaks { Speaks machine.now (words.Read name.now offset len) [] result pass.old pass.new
+        (names_in names.now) (names_in names.now) }
     ensures exchanged { Exchanges P.gave P.took machine.now pass.old pass.new }
 {
     let Some(start) = names.address_of(name) else {
@@ -193,8 +193,9 @@ pub(crate) fn answer_write<S: Sealer, P: HostPort, R: Wait>(
     requires can { CanCall machine.now pass.old }
     requires bytes { length bytes.now ≤ 2048 }
     requires room { MOST_TEXT ≤ vec_capacity room }
-    ensures speaks { Speaks (home_of machine.now pass.old) (words.Write name.now offset bytes.now) [] result pass.old pass.new
-        (names_in names.now.rooms.entries) (names_in names.now.rooms.entries) }
+    ensures speaks { Speaks machine.now
+        (words.Write name.now offset bytes.now) [] result pass.old pass.new
+        (names_in names.now) (names_in names.now) }
     ensures exchanged { Exchanges P.gave P.took machine.now pass.old pass.new }
 {
     let Some(start) = names.address_of(name) else {
@@ -240,11 +241,13 @@ fn write_answer<P: HostPort>(
     }
 }
 
-/// The answer of an access that is refused, as it is printed. The room takes the block that did not pass.
+/// The answer of an access that is refused, as it is printed. The room takes the block that did not
+/// pass.
 fn refused_answer<P: HostPort>(tap: &Tap<P>, refused: AccessRefused, room: Vec<u8>) -> Answer
     requires room { MOST_TEXT ≤ vec_capacity room }
-    requires spoiled { failed_block tap.now ≡ spoiled_by (refusal_reply refused) (came tap.now) }
-    ensures { result ≡ answer_of (refusal_reply refused) (came tap.now) }
+    requires spoiled { failed_block tap.now
+        ≡ spoiled_by (access_refusal_reply refused) (came tap.now) }
+    ensures { result ≡ answer_of (access_refusal_reply refused) (came tap.now) }
 {
     match refused {
         AccessRefused::BadRange => Answer::BadRange,

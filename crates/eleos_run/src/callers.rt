@@ -1,21 +1,20 @@
 // The program of one caller.
 ghost use Rattle.std.specs.Prelude.{vec_capacity, [], ◌+◌, ◌≤◌, ◌<◌, length};
-ghost use Rattle.eleos_direct.specs.Entered.{CanCall};
-ghost use Rattle.eleos_run.specs.Exchanges.{Exchanges};
+ghost use Rattle.eleos_pages.specs.Entered.{CanCall};
+ghost use Rattle.eleos_pages.specs.Exchanges.{Exchanges};
 ghost use Rattle.eleos_run.specs.Jobs.{HasRun, HasStepped, IsReadyJob};
-ghost use Rattle.eleos_run.specs.NameTable.{names_in};
-ghost use Rattle.eleos_run.specs.Table.{most_lines};
-ghost use Rattle.eleos_run.specs.Steps.{Speaks, home_of};
+ghost use Rattle.eleos_meaning.specs.NameTable.{names_in};
+ghost use Rattle.eleos_meaning.specs.Table.{most_lines};
+ghost use Rattle.eleos_run.specs.Steps.{Speaks};
 ghost use Rattle.eleos_run.specs.Tasks.{CanRun, HasName, IsReady, IsReadyFor, KeepsRooms};
 
 use crate::answers::{Spoken, answer_alloc, answer_free, answer_read, answer_share, answer_write};
-use crate::gate::Gate;
 use crate::jobs::Job;
-use crate::names::NameTable;
 use crate::tasks::Task;
-use eleos_base::Sealer;
+use eleos_base::{Gate, Sealer};
 use eleos_host::{HostPort, Tap};
 use eleos_machine::{Machine, Pass};
+use eleos_meaning::NameTable;
 use eleos_report::LogLine;
 use eleos_trace::{Actor, Word};
 use std::sync::Wait;
@@ -42,7 +41,7 @@ pub(crate) fn perform<S: Sealer, P: HostPort, R: Wait, G: Gate>(
 /// Does a task, and writes its line.
 fn step<S: Sealer, P: HostPort, R: Wait>(rt: &R, machine: &Machine<S>, job: &mut Job<P>, task: Task)
     requires can { CanCall machine.now job.old.pass }
-    requires ready { IsReady job.old.names.rooms.entries task }
+    requires ready { IsReady job.old.names task }
     requires room { length job.old.lines.items + most_lines task.command ≤ vec_capacity job.old.lines }
     requires left { most_lines task.command ≤ job.old.pass.hand.left }
     ensures { HasStepped P.gave P.took machine.now task job.old job.new }
@@ -81,11 +80,11 @@ fn answer<S: Sealer, P: HostPort, R: Wait>(
     requires can { CanCall machine.now pass.old }
     requires run { CanRun command.now }
     requires room { IsReadyFor command.now room }
-    requires name { HasName names.old.rooms.entries command.now }
-    ensures speaks { Speaks (home_of machine.now pass.old) command.now [] result pass.old pass.new
-        (names_in names.old.rooms.entries) (names_in names.new.rooms.entries) }
+    requires name { HasName names.old command.now }
+    ensures speaks { Speaks machine.now command.now [] result pass.old pass.new
+        (names_in names.old) (names_in names.new) }
     ensures exchanged { Exchanges P.gave P.took machine.now pass.old pass.new }
-    ensures rooms { KeepsRooms names.old.rooms.entries names.new.rooms.entries }
+    ensures rooms { KeepsRooms names.old names.new }
 {
     match command {
         Word::Alloc { name, bytes } => answer_alloc(

@@ -1,9 +1,9 @@
 // The part of a run that one thread works on.
 
-use crate::names::NameTable;
 use crate::tasks::Task;
 use eleos_host::Tap;
 use eleos_machine::Pass;
+use eleos_meaning::NameTable;
 use eleos_report::LogLine;
 use std::collections::VecDeque;
 

@@ -1,19 +1,15 @@
-//! Programs of several callers in threads of their own over one machine, with the log that is the machine's one history.
+//! Programs of several callers in threads of their own over one machine, with the log that is the
+//! machine's one history.
 #![tactic(auto)]
 
 mod answers;
 mod callers;
-mod gate;
-mod headers;
 mod jobs;
 pub mod laws;
 mod making;
-mod names;
-mod offsets;
 mod parting;
 mod runs;
 mod tasks;
 mod threads;
 
-pub use gate::Gate;
 pub use runs::{RunDone, run};

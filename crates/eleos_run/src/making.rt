@@ -7,12 +7,12 @@ ghost use Rattle.eleos_trace.specs.Kinds.{IsRun};
 ghost use Rattle.eleos_turn.specs.Hands.{dealt, fresh};
 ghost use Rattle.eleos_run.specs.Callers.{AreNewJobs, IsNewJob};
 
-use crate::headers::opening_names;
 use crate::jobs::Job;
 use crate::tasks::tasks_of;
 use eleos_base::{NoMemory, Sealer};
 use eleos_host::{HostPort, HostSpace, Tap};
 use eleos_machine::{Machine, Pass};
+use eleos_meaning::opening_names;
 use eleos_trace::Trace;
 use std::alloc::Global;
 

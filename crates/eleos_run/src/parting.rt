@@ -1,5 +1,6 @@
 // What all callers leave, put together.
-ghost use Rattle.std.specs.Prelude.{vec_capacity, ◌≡◌, ◌≤◌, ◌<◌, ◌^◌, ◌∷◌, ◌++◌, [], length, if◌then◌else◌};
+ghost use Rattle.std.specs.Prelude.{vec_capacity, ◌≡◌, ◌≤◌, ◌<◌, ◌^◌, ◌∷◌, ◌++◌, [], length};
+ghost use Rattle.std.specs.Prelude.{if◌then◌else◌};
 ghost use Rattle.eleos_report.specs.declared.line.LogLine.TheVariants.{End};
 ghost use Rattle.eleos_run.specs.Callers.{lines_of, passes_of};
 ghost use Rattle.eleos_run.specs.Lines.{stamps_in};

@@ -7,13 +7,11 @@ ghost use Rattle.eleos_turn.specs.Hands.{dealt, fresh};
 ghost use Rattle.eleos_run.specs.Callers.{AreDoneJobs};
 ghost use Rattle.eleos_run.specs.Runs.{IsRunOf};
 
-use crate::gate::Gate;
 use crate::jobs::Job;
 use crate::making::jobs_of;
 use crate::parting::{last_pass, part, with_end, with_pass};
 use crate::threads::perform_each;
-use eleos_base::{List, NoMemory};
-use eleos_core::laws::calls_run_plain;
+use eleos_base::{Gate, List, NoMemory};
 use eleos_gcm::Gcm;
 use eleos_host::{HostPort, HostSpace};
 use eleos_machine::{CloseRefused, Machine, MakeRefused, Pass, fault_of};
@@ -30,7 +28,8 @@ pub struct RunDone {
     pub pass: Pass,
 }
 
-/// Runs the programs of a trace's callers, each in a thread of its own where one can be made, over one
+/// Runs the programs of a trace's callers, each in a thread of its own where one can be made, over
+/// one
 /// machine with this host. All memory is taken before they start.
 pub fn run<R: Threads + Wait + Sync, H: HostSpace + Sync, G: Gate + Sync>(
     rt: &R,
@@ -79,11 +78,12 @@ fn run_on<R: Threads + Wait + Sync, H: HostSpace + Sync, G: Gate + Sync>(
     let mut jobs = jobs_of(alloc, trace, host, &machine, callers)?;
     let log = Vec::with_capacity(alloc, trace.lines.len() + 1)?;
     let passes = Vec::with_capacity(alloc, jobs.len() + 2)?;
-    perform_each(rt, &machine, gate, trace, &mut jobs);
+    perform_each(rt, &machine, gate, &mut jobs);
     Ok(finish(trace, machine, jobs, swapper, balloon, passes, log))
 }
 
-/// Puts together what the callers left, in the room for all passes and for the log, and closes the machine.
+/// Puts together what the callers left, in the room for all passes and for the log, and closes the
+/// machine.
 fn finish<P: HostPort>(
     _trace: &Trace,
     machine: Machine<Gcm>,
@@ -107,7 +107,6 @@ fn finish<P: HostPort>(
     requires log_room { length _trace.now.lines + 1 ≤ vec_capacity log }
     ensures { IsRunOf P.gave P.took _trace.now result.pass result.log }
 {
-    calls_run_plain();
     let mut passes = passes;
     let mut lines = log;
     part(jobs, &mut passes, &mut lines);

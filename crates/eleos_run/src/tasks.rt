@@ -2,17 +2,18 @@
 ghost use Rattle.std.specs.Prelude.{◌≡◌, IfOk, OnOk, map};
 ghost use Rattle.eleos_trace.specs.Kinds.{IsRun};
 ghost use Rattle.eleos_run.specs.Lines.{is_by, program};
-ghost use Rattle.eleos_run.specs.NameTable.{names_in};
+ghost use Rattle.eleos_meaning.specs.NameTable.{names_in};
 ghost use Rattle.eleos_run.specs.Tasks.{AllReady, CanRun, IsReady, IsReadyFor, KeepsRooms};
 
 use crate::answers::MOST_TEXT;
-use crate::names::NameTable;
 use eleos_base::{Bytes, NoMemory};
+use eleos_meaning::NameTable;
 use eleos_trace::{Actor, Trace, Word};
 use std::alloc::Global;
 use std::collections::VecDeque;
 
-/// A command that a caller is to give, with the room of a text or of a block that may be printed behind it.
+/// A command that a caller is to give, with the room of a text or of a block that may be printed
+/// behind it.
 #[derive(Drop)]
 pub(crate) struct Task {
     pub command: Word,
@@ -77,10 +78,10 @@ fn room_for(alloc: Global, command: &Word) -> Result<Vec<u8>, NoMemory>
 fn task_of(alloc: Global, names: &mut NameTable, command: &Word) -> Result<Task, NoMemory>
     requires can { CanRun command.now }
     ensures command { IfOk result (λ task. task.command ≡ command.now) }
-    ensures ready { IfOk result (λ task. IsReady names.new.rooms.entries task) }
-    ensures names { OnOk result (names_in names.new.rooms.entries
-        ≡ names_in names.old.rooms.entries) }
-    ensures others { OnOk result (KeepsRooms names.old.rooms.entries names.new.rooms.entries) }
+    ensures ready { IfOk result (λ task. IsReady names.new task) }
+    ensures names { OnOk result (names_in names.new
+        ≡ names_in names.old) }
+    ensures others { OnOk result (KeepsRooms names.old names.new) }
 {
     if let Word::Alloc { name, .. } = command {
         names.reserve(alloc, name.as_slice())?;
@@ -101,9 +102,9 @@ pub(crate) fn tasks_of(
     requires { IsRun trace.now }
     ensures commands { IfOk result (λ tasks. map (λ task. task.command) tasks.items
         ≡ program trace.now who) }
-    ensures ready { IfOk result (λ tasks. AllReady names.new.rooms.entries tasks.items) }
-    ensures names { OnOk result (names_in names.new.rooms.entries
-        ≡ names_in names.old.rooms.entries) }
+    ensures ready { IfOk result (λ tasks. AllReady names.new tasks.items) }
+    ensures names { OnOk result (names_in names.new
+        ≡ names_in names.old) }
 {
     let mut tasks = VecDeque::new(alloc);
     for line in trace.lines.as_slice() {

@@ -6,6 +6,7 @@ use Rattle.std.proofs.KnownBytes.{Appends-trans}
 use Rattle.std.proofs.lemmas.Slice.{between_to_end}
 use Rattle.std.proofs.lemmas.Bool.Decides.{nat_tests}
 
+-- bytes that are taken of what is left of a text end within the text
 pub within_text : (done count : ℕ) (text : List ℕ) → done ≤ length text → count ≤ length (take (length text - done) (drop done text)) → done + count ≤ length text
 within_text done count text at fits = omega (arith, length-take {A = ℕ}, length-drop {A = ℕ})
 
@@ -33,6 +34,7 @@ pub Appends-more : (a b c : Option (List ℕ)) (text : List ℕ) (done count : �
 Appends-more a b c text done count first then =
     rw take-add (Appends-trans a b c (take done text) (take count (drop done text)) first (rw (between_to_end text done (length text) (omega arith)) at then))
 
+-- a list of one item is that item alone
 pub one_item : {A : Type 0} (xs : List A) (d : A) → length xs ≡ 1 → xs ≡ get_or xs 0 d ∷ []
 one_item [] d one = absurd (omega arith)
 one_item (x ∷ []) d one = refl

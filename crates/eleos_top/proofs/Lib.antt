@@ -1,12 +1,10 @@
 pub mod Answering
-pub mod Bindings
 pub mod Entered
-pub mod HeaderBlocks
 pub mod Inputs
-pub mod Maps
 pub mod Readers
 pub mod Refusing
 pub mod LinesSaid
 pub mod RunTexts
+pub mod Tables
 pub mod Tampering
 pub mod Within

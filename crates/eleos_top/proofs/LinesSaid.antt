@@ -10,14 +10,15 @@ use Rattle.eleos_host.specs.Stores.{Store}
 use Rattle.eleos_trace.specs.declared.trace.Line.{Line}
 use Rattle.eleos_trace.specs.declared.trace.Trace.{Trace}
 use Rattle.eleos_top.specs.declared.answer.Answer.{Answer}
-use Rattle.eleos_top.specs.declared.meanings.Meaning.{Meaning}
-use Rattle.eleos_top.specs.declared.meanings.Meaning.TheVariants.{Nameless, Happens, Offends, Acts}
+use Rattle.eleos_meaning.specs.declared.meanings.Meaning.{Meaning}
+use Rattle.eleos_meaning.specs.Names.{Names}
+use Rattle.eleos_meaning.specs.declared.meanings.Meaning.TheVariants.{Nameless, Happens, Offends, Acts}
 use Rattle.eleos_top.specs.declared.sessions.Session.{Session}
 use Rattle.eleos_report.specs.declared.line.LogLine.TheVariants.{End}
 use Rattle.eleos_report.specs.Log.{line_text}
 use Rattle.eleos_top.specs.Log.{Said, entries, is_entry, lines_text, said_text}
 use Rattle.eleos_top.specs.Replays.{Gets, IsLogOver, Replays}
-use Rattle.eleos_top.specs.Scenes.{Places, Scene, meaning, opening_places}
+use Rattle.eleos_top.specs.Scenes.{Scene, all_names, meaning, opening_of}
 use Rattle.eleos_top.specs.Sessions.{Answered, AlwaysGoesOn, GoesOn, StandsAfter, scene_of}
 
 abbrev pub said_of : Line → Answer → Said
@@ -73,9 +74,9 @@ module _ (k : Plan) (x : Seals) where
   -- an entry, and nothing else, makes the history longer
   gets_count : (m : Meaning) (line : Line) (scene : Scene) (answer : Answer) (after : Scene) → Gets k x m line scene answer after → length after.past ≡ length scene.past + counted (is_entry answer)
   gets_count Nameless line scene answer after got = none_more scene after answer (ap is_entry got.0) got.1
-  gets_count (Happens who event) line scene answer after (inl is) =
+  gets_count (Happens event) line scene answer after (inl is) =
       ap (λ (s : Scene). length s.past) is.after_is ∙ (one_more (length scene.past) ∙ ap (λ a. length scene.past + counted (is_entry a)) (sym is.answer_is))
-  gets_count (Happens who event) line scene answer after (inr is) = none_more scene after answer (ap is_entry is.answer_is) is.after_is
+  gets_count (Happens event) line scene answer after (inr is) = none_more scene after answer (ap is_entry is.answer_is) is.after_is
   gets_count (Offends part) line scene answer after got = none_more scene after answer (ap is_entry got.0) got.1
   gets_count (Acts act) line scene answer after got =
       ap (λ (s : Scene). length s.past) got.1 ∙ (zero_more (length scene.past) ∙ ap (λ a. length scene.past + counted (is_entry a)) (sym got.0))
@@ -84,30 +85,30 @@ module _ (k : Plan) (x : Seals) where
       zero_more n = omega arith
 
   -- where a replay of these lines stands, and what it printed
-  pub record IsReplayed (told : Option Store) (places : List Places) (lines : List Line) (now : Option Store) (session : Session) (text : List ℕ) : Type 0 where
+  pub record IsReplayed (told : Option Store) (names : List Names) (lines : List Line) (now : Option Store) (session : Session) (text : List ℕ) : Type 0 where
     pub past : History
     pub stands : StandsAfter k x past session
     pub said : IfSome told (λ store. (said : List Said) × (store' : Store) × (now ≡ Some store')
-        × Replays k x lines (record { past = []; store = store; places = places }) said (scene_of past store' session)
+        × Replays k x lines (record { past = []; store = store; names = names }) said (scene_of past store' session)
         × (text ≡ lines_text said) × (length past ≡ entries said))
 
   -- before the first line
-  pub replayed_none : (told : Option Store) (session : Session) → StandsAfter k x [] session → IsReplayed told session.places.items [] told session []
+  pub replayed_none : (told : Option Store) (session : Session) → StandsAfter k x [] session → IsReplayed told (all_names session.names.items) [] told session []
   replayed_none told session stands = record { past = []; stands = stands; said = by told }
     where
       by : (t : Option Store) → IfSome t (λ store. (said : List Said) × (store' : Store) × (t ≡ Some store')
-          × Replays k x [] (record { past = []; store = store; places = session.places.items }) said (scene_of [] store' session)
+          × Replays k x [] (record { past = []; store = store; names = all_names session.names.items }) said (scene_of [] store' session)
           × ([] ≡ lines_text said) × (0 ≡ entries said))
       by None = tt
       by (Some store) = ([], store, refl, (refl, refl), refl, refl)
 
   -- one line more
-  pub replayed_more : (told : Option Store) (places : List Places) (lines : List Line) (line : Line) (answer : Answer) (now now' : Option Store) (old new : Session) (text text' : List ℕ)
-      → IsReplayed told places lines now old text
+  pub replayed_more : (told : Option Store) (names : List Names) (lines : List Line) (line : Line) (answer : Answer) (now now' : Option Store) (old new : Session) (text text' : List ℕ)
+      → IsReplayed told names lines now old text
       → AlwaysGoesOn k x (Answered k x line) answer now now' old new
       → text' ≡ text ++ said_text (said_of line answer)
-      → IsReplayed told places (lines ++ line ∷ []) now' new text'
-  replayed_more told places lines line answer now now' old new text text' is goes_on text_is =
+      → IsReplayed told names (lines ++ line ∷ []) now' new text'
+  replayed_more told names lines line answer now now' old new text text' is goes_on text_is =
       record { past = on.later; stands = on.stands; said = by told is.said }
     where
       on : GoesOn k x (Answered k x line) answer now now' old new is.past
@@ -118,10 +119,10 @@ module _ (k : Plan) (x : Seals) where
 
       by : (t : Option Store)
           → IfSome t (λ store. (said : List Said) × (store' : Store) × (now ≡ Some store')
-          × Replays k x lines (record { past = []; store = store; places = places }) said (scene_of is.past store' old)
+          × Replays k x lines (record { past = []; store = store; names = names }) said (scene_of is.past store' old)
           × (text ≡ lines_text said) × (length is.past ≡ entries said))
           → IfSome t (λ store. (said : List Said) × (store' : Store) × (now' ≡ Some store')
-          × Replays k x (lines ++ line ∷ []) (record { past = []; store = store; places = places }) said (scene_of on.later store' new)
+          × Replays k x (lines ++ line ∷ []) (record { past = []; store = store; names = names }) said (scene_of on.later store' new)
           × (text' ≡ lines_text said) × (length on.later ≡ entries said))
       by None s = tt
       by (Some store) (said, store', now_is, replays, so_far, count) =
@@ -129,7 +130,7 @@ module _ (k : Plan) (x : Seals) where
             said ++ said_of line answer ∷ [],
             next.0,
             next.1,
-            replays_push lines (record { past = []; store = store; places = places }) said (scene_of is.past store' old) line answer (scene_of on.later next.0 new) replays next.2,
+            replays_push lines (record { past = []; store = store; names = names }) said (scene_of is.past store' old) line answer (scene_of on.later next.0 new) replays next.2,
             text_is ∙ (ap (λ t. t ++ said_text (said_of line answer)) so_far ∙ sym (text_push said (said_of line answer))),
             gets_count (meaning k (scene_of is.past store' old) line) line (scene_of is.past store' old) answer (scene_of on.later next.0 new) next.2
                 ∙ (ap (λ n. n + counted (is_entry answer)) count ∙ sym (entries_push said (said_of line answer))),
@@ -137,7 +138,7 @@ module _ (k : Plan) (x : Seals) where
 
 -- after the last line: the log
 pub log_of_all : (trace : Trace) (told now : Option Store) (session : Session) (text text' : List ℕ) → IsGood trace.plan → OfEveryRun RunsPlain
-    → IsReplayed trace.plan (seals_by trace.key) told (opening_places trace) trace.lines now session text
+    → IsReplayed trace.plan (seals_by trace.key) told (opening_of trace) trace.lines now session text
     → text' ≡ text ++ line_text (End session.stamps) → IsLogOver told now trace text'
 log_of_all trace told now session text text' good law is text_is = by told is.said
   where
@@ -149,7 +150,7 @@ log_of_all trace told now session text text' good law is text_is = by told is.sa
 
     by : (t : Option Store)
         → IfSome t (λ store. (said : List Said) × (store' : Store) × (now ≡ Some store')
-        × Replays k x trace.lines (record { past = []; store = store; places = opening_places trace }) said (scene_of is.past store' session)
+        × Replays k x trace.lines (record { past = []; store = store; names = opening_of trace }) said (scene_of is.past store' session)
         × (text ≡ lines_text said) × (length is.past ≡ entries said))
         → IsLogOver t now trace text'
     by None s = tt

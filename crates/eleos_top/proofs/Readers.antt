@@ -2,7 +2,7 @@
 use Rattle.std.proofs.Common.{◌≡◌, ℕ, ◌<◌, List, length, Option, Some, None, IfSome, Result, Err, false, refl, sym, ◌∙◌, ap, subst, nat_le, arith}
 use Rattle.std.proofs.lemmas.Bool.Decides.{nat_tests}
 use Rattle.eleos_texts.specs.Texts.{most_text}
-use Rattle.eleos_trace.specs.Reading.{trace_of}
+use Rattle.eleos_trace.specs.Reading.{trace_of, prefix_of}
 use Rattle.eleos_texts.specs.Reasons.{Fails}
 use Rattle.eleos_trace.specs.declared.trace.Kind.{Kind}
 use Rattle.eleos_texts.specs.declared.why.Bad.{Bad}
@@ -28,7 +28,7 @@ vectors_in-large input large = rw (not_le (length input) most_text large) refl
 
 -- nor a trace of any kind
 pub trace_of-large : (kind : Kind) (input : List ℕ) → most_text < length input → trace_of kind input ≡ Err too_large
-unfolding trace_of
+unfolding trace_of prefix_of
 trace_of-large kind input large = rw (not_le (length input) most_text large) refl
 
 module _ {Y : Type 0} (reader : List ℕ → Result Y Bad) where

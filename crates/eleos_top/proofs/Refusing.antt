@@ -7,13 +7,9 @@ use Rattle.eleos_texts.specs.declared.why.Bad.{Bad}
 use Rattle.eleos_top.specs.Outcome.{PutsBy, PutsFront, IsRefusal, refused_text}
 
 module _ {A : Type 0} (read : List ℕ → Result A Bad) (IsTextOf : A → List ℕ → Type 0) (bad : Bad) (old new : Option (List ℕ)) (before now : ℕ) where
-  of_line : (left : Option (List ℕ)) → IfSome left (λ input. read input ≡ Err bad) → PutsFront (refused_text bad) old new before now → IfSome left (λ input. IsRefusal read IsTextOf input old new before now)
-  of_line (Some input) is line = record { bad = bad; read_is = is; line = line }
-  of_line None is line = is
-
   -- the line or a front of it, or nothing for want of memory
   pub PutsBy-refused : (status : Status) (left : Option (List ℕ)) → IfSome left (λ input. read input ≡ Err bad)
       → (status ≡ Refused → PutsFront (refused_text bad) old new before now) → (status ≡ Memory → Keeps old new) → (status ≡ Refused) ⊎ (status ≡ Memory)
       → PutsBy read IsTextOf status left old new before now
-  PutsBy-refused status left is line keeps (inl same) = subst (λ s. PutsBy read IsTextOf s left old new before now) (sym same) (of_line left is (line same))
+  PutsBy-refused status left is line keeps (inl same) = subst (λ s. PutsBy read IsTextOf s left old new before now) (sym same) (record { bad = bad; read_is = is; line = line same })
   PutsBy-refused status left is line keeps (inr same) = subst (λ s. PutsBy read IsTextOf s left old new before now) (sym same) (keeps same)

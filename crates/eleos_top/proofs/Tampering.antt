@@ -20,7 +20,7 @@ use Rattle.eleos_core.specs.declared.event.Goal.{Goal}
 use Rattle.eleos_core.specs.declared.event.Goal.TheVariants.{Low, To}
 use Rattle.eleos_base.specs.declared.memory.Looked.{Looked}
 use Rattle.eleos_core.specs.Legal.{Judged, failed, passed, unfit, failed_last, judged, ByBlocks, IsPlainly, CallStep, EventStep, CoreRun, access_refusal as access_refusal_of, is_worn, passes, verdict}
-use Rattle.eleos_core.specs.Places.{sub_of, subs}
+use Rattle.eleos_base.specs.Places.{sub_of, subs}
 use Rattle.eleos_core.specs.Seals.{Seals}
 use Rattle.eleos_core.specs.State.{History, frames_of, last, live, places, version}
 use Rattle.eleos_core.specs.Sweeps.{SurveyReply}

@@ -1,48 +1,39 @@
 -- A command that its actor may give means an event of the plan, where it means one.
 use Rattle.std.proofs.Common.{◌≡◌, ℕ, ◌+◌, ◌*◌, ◌/◌, ◌<◌, List, Option, Some, None, true, nat_lt, slice_index_or, if◌then◌else◌, sym, subst, arith}
-use Rattle.std.specs.FinMap as finmap
 use Rattle.std.proofs.lemmas.Bool.{ltb-true}
 use Rattle.std.proofs.lemmas.Bool.Decides.{nat_tests}
-use Rattle.std.proofs.lemmas.List.Sums.{sum-map}
 use Rattle.eleos_base.specs.declared.memory.Addr.{Addr}
 use Rattle.eleos_base.specs.declared.memory.Part.TheVariants.{Untied}
-use Rattle.eleos_base.specs.declared.plan.EnclavePlan.{EnclavePlan}
 use Rattle.eleos_base.specs.declared.plan.Plan.{Plan}
 use Rattle.eleos_base.specs.Plain.{is_in_run}
 use Rattle.eleos_base.specs.Plans.{IsCaller, IsGood, page_bytes}
 use Rattle.eleos_core.specs.declared.event.Event.{Event}
 use Rattle.eleos_core.specs.declared.event.Event.TheVariants.{Unlink}
 use Rattle.eleos_core.specs.Legal.{IsActor, IsOwner, IsWithin, OneIsPool}
-use Rattle.eleos_core.specs.Places.{all_frames, all_pages, first_sub, page_counts, page_of, sub_of, subs}
+use Rattle.eleos_base.specs.Places.{all_pages, first_sub, page_counts, page_of, sub_of, subs}
 use Rattle.eleos_core.proofs.Numbers.{page_exists}
 use Rattle.eleos_core.proofs.Tests.{by_test}
 use Rattle.eleos_trace.specs.declared.word.Actor as actors
 use Rattle.eleos_trace.specs.declared.word.Actor.TheVariants.{Caller, Swapper, Balloon, Host}
 use Rattle.eleos_trace.specs.declared.word.Word.{Word}
 use Rattle.eleos_trace.specs.declared.word.Word.TheVariants.{Alloc, Free, Share, Read, Write, Tie, Untie, Fill, Evict, Move, Flip, SwapPlaces, Keep, Restore}
-use Rattle.eleos_trace.specs.Machines as machines
 use Rattle.eleos_trace.specs.Replays.{IsCallerOf, IsMove, MayGive}
-use Rattle.eleos_top.specs.declared.meanings.Meaning.{Meaning}
-use Rattle.eleos_top.specs.declared.meanings.Meaning.TheVariants.{Happens, Offends}
-use Rattle.eleos_top.specs.Offset.{at_offset}
-use Rattle.eleos_top.specs.Scenes.{Places, at_place, meaning_of, places_of, untie_of, who_of}
+use Rattle.eleos_meaning.specs.declared.meanings.Meaning.{Meaning}
+use Rattle.eleos_meaning.specs.declared.meanings.Meaning.TheVariants.{Happens, Offends}
+use Rattle.eleos_meaning.specs.Calls.{at_offset}
+use Rattle.eleos_meaning.specs.Meanings.{at_name, meaning_of, untie_of}
+use Rattle.eleos_meaning.specs.Names.{Names}
+use Rattle.eleos_top.specs.Scenes.{who_of}
 
 -- where an event is meant, it is one of the plan's
-abbrev MeansWithin : Plan → Meaning → Type 0
-MeansWithin k (Happens who event) = IsWithin k who event
-MeansWithin k _ = Unit {0}
+abbrev MeansWithin : Plan → ℕ → Meaning → Type 0
+MeansWithin k who (Happens event) = IsWithin k who event
+MeansWithin k who _ = Unit {0}
 
 in_run : (first subs i : ℕ) → i < subs → is_in_run first subs (first + i) ≡ true
 in_run first subs i inside = grind (arith, nat_tests)
 
 module _ (k : Plan) where
-  -- pages and frames are counted alike
-  page_within : (p : ℕ) → p < machines.all_pages k → p < all_pages k
-  page_within p inside = let same = sum-map (λ (made : EnclavePlan). made.pages) k.enclaves in omega arith
-
-  frame_within : (f : ℕ) → f < machines.all_frames k → f < all_frames k
-  frame_within f inside = let same = sum-map (λ (made : EnclavePlan). made.frames) k.enclaves in omega arith
-
   -- the callers, the swapper and the balloon by their numbers
   caller_is : (actor : actors.Actor) → IsCallerOf k actor → IsCaller k (who_of k actor)
   caller_is (Caller number) caller = caller
@@ -67,39 +58,35 @@ module _ (k : Plan) where
   page_of_address : (at : Addr) → at.at < page_bytes * slice_index_or (page_counts k) at.enclave 0 → page_of k (sub_of k at) < all_pages k
   page_of_address at inside = page_exists k at.enclave (sub_of k at) (in_run (first_sub k at.enclave) (subs k at.enclave) (at.at / 1024) (omega arith))
 
-  untie_within : (who : ℕ) (at : Addr) → IsCaller k who → MeansWithin k (untie_of k who at)
+  untie_within : (who : ℕ) (at : Addr) → IsCaller k who → MeansWithin k who (untie_of k at)
   untie_within who at caller =
       let bytes : ℕ = page_bytes * slice_index_or (page_counts k) at.enclave 0 in
-      by_test (nat_lt at.at bytes) (λ v. MeansWithin k (if v then Happens who (Unlink (page_of k (sub_of k at))) else Offends Untied))
+      by_test (nat_lt at.at bytes) (λ v. MeansWithin k who (if v then Happens (Unlink (page_of k (sub_of k at))) else Offends Untied))
       (λ yes_is. (caller, page_of_address at (ltb-true at.at bytes yes_is)))
       (λ no_is. tt)
 
   -- what is meant at the address of a name, if it has one
-  placed : (meant : Addr → Meaning) → ((at : Addr) → MeansWithin k (meant at)) → (at : Option Addr) → MeansWithin k (at_place meant at)
-  placed meant each None = tt
-  placed meant each (Some at) = each at
+  placed : (who : ℕ) (meant : Addr → Meaning) → ((at : Addr) → MeansWithin k who (meant at)) → (at : Option Addr) → MeansWithin k who (at_name meant at)
+  placed who meant each None = tt
+  placed who meant each (Some at) = each at
 
-  module _ (all : List Places) (actor : actors.Actor) where
-    abbrev found : List ℕ → Option Addr
-    found name = finmap.get (places_of all (who_of k actor)) name
-
-    means_within : (word : Word) → MayGive k actor word → MeansWithin k (meaning_of k all (who_of k actor) word)
+  module _ (names : Names) (actor : actors.Actor) where
+    means_within : (word : Word) → MayGive k actor word → MeansWithin k (who_of k actor) (meaning_of k names word)
     means_within (Alloc name bytes) given = caller_is actor given
-    means_within (Free name) given = placed _ (λ at. caller_is actor given) (found name)
-    means_within (Share name) given = placed _ (λ at. caller_is actor given) (found name)
-    means_within (Read name offset len) given = placed _ (λ at. caller_is actor given) (found name)
-    means_within (Write name offset bytes) given = placed _ (λ at. caller_is actor given.0) (found name)
-    means_within (Tie name offset) given = placed _ (λ at. caller_is actor given) (found name)
-    means_within (Untie name offset) given = placed _ (λ at. untie_within (who_of k actor) (at_offset at offset) (caller_is actor given)) (found name)
-    means_within (Fill page frame) given = (swapper_is actor given.0, page_within page given.1, frame_within frame given.2)
-    means_within (Evict page frame) given = (swapper_is actor given.0, page_within page given.1, frame_within frame given.2)
-    means_within (Move frame from to) given = let owners = move_is from to given.2 in (balloon_is actor given.0, frame_within frame given.1, owners.0, owners.1, owners.2)
+    means_within (Free name) given = placed _ _ (λ at. caller_is actor given) (names name)
+    means_within (Share name) given = placed _ _ (λ at. caller_is actor given) (names name)
+    means_within (Read name offset len) given = placed _ _ (λ at. caller_is actor given) (names name)
+    means_within (Write name offset bytes) given = placed _ _ (λ at. caller_is actor given.0) (names name)
+    means_within (Tie name offset) given = placed _ _ (λ at. caller_is actor given) (names name)
+    means_within (Untie name offset) given = placed _ _ (λ at. untie_within (who_of k actor) (at_offset at offset) (caller_is actor given)) (names name)
+    means_within (Fill page frame) given = (swapper_is actor given.0, given.1, given.2)
+    means_within (Evict page frame) given = (swapper_is actor given.0, given.1, given.2)
+    means_within (Move frame from to) given = let owners = move_is from to given.2 in (balloon_is actor given.0, given.1, owners.0, owners.1, owners.2)
     means_within (Flip place bit) given = tt
     means_within (SwapPlaces a b) given = tt
     means_within (Keep place) given = tt
     means_within (Restore place) given = tt
 
 -- a command that its actor may give, where it means an event, means one of the plan's
-pub within : (k : Plan) (all : List Places) (actor : actors.Actor) (word : Word) (who : ℕ) (event : Event)
-    → IsGood k → MayGive k actor word → meaning_of k all (who_of k actor) word ≡ Happens who event → IsWithin k who event
-within k all actor word who event good given is = subst (MeansWithin k) is (means_within k all actor word given)
+pub within : (k : Plan) (names : Names) (actor : actors.Actor) (word : Word) (event : Event) → MayGive k actor word → meaning_of k names word ≡ Happens event → IsWithin k (who_of k actor) event
+within k names actor word event given is = subst (MeansWithin k (who_of k actor)) is (means_within k names actor word given)

@@ -1,8 +1,6 @@
-pub mod Addresses
 pub mod Input
 pub mod Log
 pub mod MainEnds
-pub mod Offset
 pub mod Outcome
 pub mod Replays
 pub mod RunEnds

@@ -8,7 +8,7 @@ use Rattle.eleos_report.specs.declared.answer.Answer.{Answer as Printed}
 use Rattle.eleos_report.specs.declared.line.LogLine.{LogLine}
 use Rattle.eleos_report.specs.declared.line.LogLine.TheVariants as lines
 use Rattle.eleos_report.specs.Log.{line_text}
-use Rattle.eleos_run.specs.Calls.{answer_of}
+use Rattle.eleos_meaning.specs.Calls.{answer_of}
 use Rattle.eleos_trace.specs.declared.trace.Line.{Line}
 use Rattle.eleos_trace.specs.declared.word.Word.{Word}
 use Rattle.eleos_trace.specs.declared.word.Word.TheVariants.{Evict}
@@ -25,6 +25,7 @@ abbrev pub evict_reply : Reply → ℕ → Printed
 evict_reply Done puts = printed.Put puts
 evict_reply reply puts = answer_of reply []
 
+-- what is printed behind a command that became an entry; of an evict it is also how many blocks were put
 abbrev pub entry_reply : Word → Reply → ℕ → Printed
 entry_reply (Evict page frame) reply puts = evict_reply reply puts
 entry_reply word reply puts = answer_of reply []
@@ -41,6 +42,7 @@ line_said line (Entered stamp reply puts) = lines.Said (Some stamp) line.actor l
 line_said line (Refused part) = lines.Said None line.actor line.command (printed.Illegal part)
 line_said line (Acted is_done) = lines.Said None line.actor line.command (act_reply is_done)
 
+-- the text of a command's line in the log of a replay
 abbrev pub said_text : Said → List ℕ
 said_text said = line_text (line_said said.line said.answer)
 

@@ -18,24 +18,24 @@ PutsFront text old new before now = Appends old new text ⊎ (HasRisen before no
 
 -- how a call reads its input, and which text it puts for what it has read
 module _ {A : Type 0} (read : List ℕ → Result A Bad) (IsTextOf : A → List ℕ → Type 0) where
-  -- a text for an input
-  pub record IsText (input text : List ℕ) : Type 0 where
+  -- a text for what was read: the input, where the source tells what it had left
+  pub record IsText (left : Option (List ℕ)) (text : List ℕ) : Type 0 where
     pub spelled : A
-    pub read_is : read input ≡ Ok spelled
+    pub read_is : IfSome left (λ input. read input ≡ Ok spelled)
     pub text_is : IsTextOf spelled text
 
-  -- the line for an input that is not read, or a front of it
-  pub record IsRefusal (input : List ℕ) (old new : Option (List ℕ)) (before now : ℕ) : Type 0 where
+  -- the line of a refusal, or a front of it: of the input's, where the source tells what it had left
+  pub record IsRefusal (left old new : Option (List ℕ)) (before now : ℕ) : Type 0 where
     pub bad : Bad
-    pub read_is : read input ≡ Err bad
+    pub read_is : IfSome left (λ input. read input ≡ Err bad)
     pub line : PutsFront (refused_text bad) old new before now
 
-  -- what the sink has got, where the source told what it had left
+  -- what the sink has got, by the status
   abbrev pub PutsBy : Status → Option (List ℕ) → Option (List ℕ) → Option (List ℕ) → ℕ → ℕ → Type 0
-  PutsBy Done left old new before now = IfSome left (λ input. (text : List ℕ) × IsText input text × Appends old new text)
-  PutsBy NotLegal left old new before now = IfSome left (λ input. (text : List ℕ) × IsText input text × Appends old new text)
-  PutsBy WriteFault left old new before now = IfSome left (λ input. (text : List ℕ) × (count : ℕ) × IsText input text × Appends old new (take count text))
-  PutsBy Refused left old new before now = IfSome left (λ input. IsRefusal input old new before now)
+  PutsBy Done left old new before now = (text : List ℕ) × IsText left text × Appends old new text
+  PutsBy NotLegal left old new before now = (text : List ℕ) × IsText left text × Appends old new text
+  PutsBy WriteFault left old new before now = (text : List ℕ) × (count : ℕ) × IsText left text × Appends old new (take count text)
+  PutsBy Refused left old new before now = IsRefusal left old new before now
   PutsBy Usage left old new before now = Keeps old new
   PutsBy ReadFault left old new before now = Keeps old new
   PutsBy Memory left old new before now = Keeps old new

@@ -14,10 +14,10 @@ use Rattle.eleos_trace.specs.declared.trace.Line.{Line}
 use Rattle.eleos_trace.specs.declared.trace.Trace.{Trace}
 use Rattle.eleos_top.specs.declared.answer.Answer.{Answer}
 use Rattle.eleos_top.specs.declared.answer.Answer.TheVariants as answers
-use Rattle.eleos_top.specs.declared.meanings.Meaning.{Meaning}
-use Rattle.eleos_top.specs.declared.meanings.Meaning.TheVariants.{Nameless, Happens, Offends, Acts}
+use Rattle.eleos_meaning.specs.declared.meanings.Meaning.{Meaning}
+use Rattle.eleos_meaning.specs.declared.meanings.Meaning.TheVariants.{Nameless, Happens, Offends, Acts}
 use Rattle.eleos_top.specs.Log.{Said, log_text}
-use Rattle.eleos_top.specs.Scenes.{Scene, is_done, meaning, opening_places, places_after, store_after}
+use Rattle.eleos_top.specs.Scenes.{Scene, all_after, is_done, meaning, opening_of, store_after, who_of}
 
 -- the blocks are what the host has at these places, as far as they go
 abbrev pub AreFrom : Store → List ℕ → List (List ℕ) → Type 0
@@ -40,7 +40,7 @@ module _ (k : Plan) (x : Seals) where
   scene_after line e scene = record {
     past = e ∷ scene.past;
     store = store_with scene.store (puts_of k x e scene.past);
-    places = places_after e.who line.command e.reply scene.places;
+    names = all_after e.who line.command e.reply scene.names;
   }
 
   -- the line's event became an entry
@@ -59,7 +59,7 @@ module _ (k : Plan) (x : Seals) where
   -- a line with this meaning gets the answer, and leaves this scene after it
   abbrev pub Gets : Meaning → Line → Scene → Answer → Scene → Type 0
   Gets Nameless line scene answer after = (answer ≡ answers.Skipped) × (after ≡ scene)
-  Gets (Happens who event) line scene answer after = IsEntered line scene who event answer after ⊎ IsRefused scene who event answer after
+  Gets (Happens event) line scene answer after = IsEntered line scene (who_of k line.actor) event answer after ⊎ IsRefused scene (who_of k line.actor) event answer after
   Gets (Offends part) line scene answer after = (answer ≡ answers.Refused part) × (after ≡ scene)
   Gets (Acts act) line scene answer after = (answer ≡ answers.Acted (is_done act scene.store)) × (after ≡ record scene { store = store_after act scene.store })
 
@@ -71,7 +71,7 @@ module _ (k : Plan) (x : Seals) where
 
 -- the scene before the first command
 abbrev pub opening_scene : Trace → Store → Scene
-opening_scene trace store = record { past = []; store = store; places = opening_places trace }
+opening_scene trace store = record { past = []; store = store; names = opening_of trace }
 
 -- the text is the log of a replay of the trace over a host that has this, and afterwards the host has what the replay left there
 pub record IsLogFrom (store : Store) (after : Option Store) (trace : Trace) (text : List ℕ) : Type 0 where
@@ -88,5 +88,5 @@ abbrev pub IsLogOver : Option Store → Option Store → Trace → List ℕ → 
 IsLogOver told after trace text = IfSome told (λ store. IsLogFrom store after trace text)
 
 -- it is, once the host has at least the places of the trace
-abbrev pub IsLogOf : Option Store → Option Store → Trace → List ℕ → Type 0
-IsLogOf told after trace text = IsLogOver (option_map (with_room (machines.places trace.plan)) told) after trace text
+abbrev pub IsReplayLog : Option Store → Option Store → Trace → List ℕ → Type 0
+IsReplayLog told after trace text = IsLogOver (option_map (with_room (machines.places trace.plan)) told) after trace text

@@ -37,7 +37,7 @@ pub record NoneRan (end : RunEnd) : Type 0 where
 -- what a run of a trace leaves: a pass that has seen its history, and its log
 module _ (IsRunOf : Trace → PassState → List LogLine → Type 0) where
   -- the callers of the trace ran, and these are the pass and the log of their run
-  pub record HasRun (end : RunEnd) (trace : Trace) : Type 0 where
+  pub record CallersRan (end : RunEnd) (trace : Trace) : Type 0 where
     pub pass : PassState
     pub pass_is : end.pass ≡ Some pass
     pub run : IsRunOf trace pass end.log
@@ -47,13 +47,13 @@ module _ (IsRunOf : Trace → PassState → List LogLine → Type 0) where
 
   -- the text is the log of their run
   abbrev pub IsRunText : RunEnd → Trace → List ℕ → Type 0
-  IsRunText end trace text = HasRun end trace × (text ≡ log_text end.log)
+  IsRunText end trace text = CallersRan end trace × (text ≡ log_text end.log)
 
   -- the callers of the trace that the input spells ran
   pub record Ran (left : Option (List ℕ)) (end : RunEnd) : Type 0 where
     pub trace : Trace
     pub spelled : IfSome left (TellsTrace Run trace)
-    pub has_run : HasRun end trace
+    pub has_run : CallersRan end trace
 
   -- whether callers ran, by the status
   abbrev pub RanBy : Status → Option (List ℕ) → RunEnd → Type 0

@@ -1,5 +1,6 @@
 // The top call on vectors.
-ghost use Rattle.std.specs.Prelude.{◌≡◌, ◌≢◌, ◌↔◌, [], ◌∷◌, map, codes, IfOk, IfSome, IsErrOf, Ok, string_bytes};
+ghost use Rattle.std.specs.Prelude.{◌≡◌, ◌≢◌, ◌↔◌, [], ◌∷◌, map, codes, IfOk, IfSome, IsErrOf, Ok};
+ghost use Rattle.std.specs.Prelude.{string_bytes};
 ghost use Rattle.eleos_base.specs.Outside.{HasRisen};
 ghost use Rattle.eleos_texts.specs.declared.why.Bad.{Bad};
 ghost use Rattle.eleos_vectors.specs.Answers.{AnswersVectors};
@@ -28,8 +29,10 @@ pub fn gcm_top<S: Source, K: Sink>(
         (K.got sink.old) (K.got sink.new) (K.faults sink.old) (K.faults sink.new) }
     ensures usage { (result ≡ Status.Usage)
         ↔ (map (λ word. string_bytes word) words.now ≢ codes "gcm" ∷ []) }
-    ensures read_fault { result ≡ Status.ReadFault → HasRisen (S.faults source.old) (S.faults source.new) }
-    ensures write_fault { result ≡ Status.WriteFault → HasRisen (K.faults sink.old) (K.faults sink.new) }
+    ensures read_fault { result ≡ Status.ReadFault
+        → HasRisen (S.faults source.old) (S.faults source.new) }
+    ensures write_fault { result ≡ Status.WriteFault
+        → HasRisen (K.faults sink.old) (K.faults sink.new) }
     ensures always_legal { result ≢ Status.NotLegal }
 {
     if !is_only(words, "gcm") {
@@ -56,7 +59,8 @@ fn vectors_from<S: Source>(alloc: Global, source: &mut S) -> Result<Vec<Vector>,
         IfSome (S.left source.old) (λ input. vectors_in input ≡ Ok vectors.items)) }
     ensures refused { (bad : Bad) → result ≡ Err (InputError.Refused bad)
         → IfSome (S.left source.old) (λ input. vectors_in input ≡ Err bad) }
-    ensures failed { IsErrOf result InputError.Failed → HasRisen (S.faults source.old) (S.faults source.new) }
+    ensures failed { IsErrOf result InputError.Failed
+        → HasRisen (S.faults source.old) (S.faults source.new) }
 {
     let input = match read_all(alloc, source) {
         Ok(input) => input,

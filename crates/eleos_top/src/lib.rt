@@ -2,13 +2,10 @@
 #![tactic(auto)]
 
 mod answer;
+mod callers;
 mod gcm;
-mod headers;
 mod input;
-mod meanings;
-mod offsets;
 mod picking;
-mod places;
 mod replaying;
 mod running;
 mod said;
@@ -16,7 +13,6 @@ mod scenes;
 mod sessions;
 mod streams;
 mod top;
-mod unties;
 
 pub use gcm::gcm_top;
 pub use picking::{MainEnd, main_top};

@@ -8,16 +8,15 @@ ghost use Rattle.eleos_vectors.specs.Answers.{AnswersVectors};
 ghost use Rattle.eleos_vectors.specs.Vectors.{vectors_in};
 ghost use Rattle.eleos_top.specs.MainEnds.{IsPlainEnd, IsRunEnd, status_of};
 ghost use Rattle.eleos_top.specs.Outcome.{EndsBy, first_of};
-ghost use Rattle.eleos_top.specs.Replays.{IsLogOf};
+ghost use Rattle.eleos_top.specs.Replays.{IsReplayLog};
 ghost use Rattle.eleos_top.specs.RunEnds.{RunEndsBy};
 
 use crate::gcm::gcm_top;
 use crate::replaying::replay_top;
 use crate::running::{RunEnd, run_top};
 use crate::top::is_word;
-use eleos_base::{Sink, Source, Status};
+use eleos_base::{Gate, Sink, Source, Status};
 use eleos_host::{HostHand, HostOpener, HostPort, HostRoom};
-use eleos_run::Gate;
 use std::alloc::Global;
 use std::sync::Wait;
 use std::thread::Threads;
@@ -43,7 +42,8 @@ impl MainEnd {
     }
 }
 
-/// Makes the top call that the first word names. A replay takes its blocks from the told host, and a
+/// Makes the top call that the first word names. A replay takes its blocks from the told host, and
+/// a
 /// run from the other, with this gate before its commands.
 pub fn main_top<
     R: Threads + Wait + Sync,
@@ -69,7 +69,7 @@ pub fn main_top<
         (S.faults source.old) (S.faults source.new) (K.faults sink.old) (K.faults sink.new)) result }
     ensures replay { first_of (map (λ word. string_bytes word) words.now) ≡ Some (codes "replay")
         → IsPlainEnd (λ status. EndsBy (trace_of Replay)
-        (IsLogOf (P.store told.old) (P.store told.new)) (codes "replay")
+        (IsReplayLog (P.store told.old) (P.store told.new)) (codes "replay")
         (map (λ word. string_bytes word) words.now) status
         (S.left source.old) (K.got sink.old) (K.got sink.new)
         (S.faults source.old) (S.faults source.new) (K.faults sink.old) (K.faults sink.new)) result }

@@ -5,7 +5,7 @@ ghost use Rattle.eleos_trace.specs.declared.trace.Kind.TheVariants.{Replay};
 ghost use Rattle.eleos_trace.specs.Reading.{trace_of};
 ghost use Rattle.eleos_trace.specs.Kinds.{IsReplay};
 ghost use Rattle.eleos_top.specs.Outcome.{PutsBy};
-ghost use Rattle.eleos_top.specs.Replays.{IsLogOf};
+ghost use Rattle.eleos_top.specs.Replays.{IsReplayLog};
 
 use crate::input::{InputError, trace_in};
 use crate::said::push_answered;
@@ -13,7 +13,6 @@ use crate::sessions::Session;
 use crate::streams::put_lines;
 use crate::top::{is_only, refuse};
 use eleos_base::{NoMemory, Sink, Source, Status};
-use eleos_core::laws::calls_run_plain;
 use eleos_host::{HostHand, HostPort, HostRoom};
 use eleos_report::push_end;
 use eleos_trace::{Kind, Trace, places};
@@ -25,8 +24,10 @@ use std::alloc::Global;
 ///
 /// With status 0 the bytes put are the log of the trace, by what the host had before: each command
 /// that became an entry is legal by the machine's step over the blocks of the host, and where no
-/// altered or replaced block passed, the calls are one run of plain memory. The host then has what the
-/// commands left there. With another status nothing is put, the line that refuses the input, or a front.
+/// altered or replaced block passed, the calls are one run of plain memory. The host then has what
+/// the
+/// commands left there. With another status nothing is put, the line that refuses the input, or a
+/// front.
 pub fn replay_top<S: Source, K: Sink, P: HostPort + HostHand + HostRoom>(
     alloc: Global,
     words: &[String],
@@ -34,7 +35,8 @@ pub fn replay_top<S: Source, K: Sink, P: HostPort + HostHand + HostRoom>(
     sink: &mut K,
     host: &mut P,
 ) -> Status
-    ensures puts { PutsBy (trace_of Replay) (IsLogOf (P.store host.old) (P.store host.new)) result
+    ensures puts { PutsBy (trace_of Replay)
+        (IsReplayLog (P.store host.old) (P.store host.new)) result
         (S.left source.old) (K.got sink.old) (K.got sink.new)
         (K.faults sink.old) (K.faults sink.new) }
     ensures usage { (result ≡ Status.Usage)
@@ -71,9 +73,8 @@ fn replay<P: HostPort + HostHand + HostRoom>(
 ) -> Result<Vec<u8>, NoMemory>
     requires { IsReplay trace.now }
     ensures { IfOk result (λ text.
-        IsLogOf (P.store host.old) (P.store host.new) trace.now text.items) }
+        IsReplayLog (P.store host.old) (P.store host.new) trace.now text.items) }
 {
-    calls_run_plain();
     host.make_room(places(&trace.plan))?;
     let mut session = Session::open(alloc, trace)?;
     let mut text = Vec::new(alloc);

@@ -1,5 +1,6 @@
 // The top call on traces of kind run.
-ghost use Rattle.std.specs.Prelude.{◌≡◌, ◌≢◌, ◌↔◌, ◌⊎◌, ℕ, [], ◌∷◌, None, map, take, codes, IfOk, string_bytes};
+ghost use Rattle.std.specs.Prelude.{◌≡◌, ◌≢◌, ◌↔◌, ◌⊎◌, ℕ, [], ◌∷◌, None, map, take, codes, IfOk};
+ghost use Rattle.std.specs.Prelude.{string_bytes};
 ghost use Rattle.std.specs.Io.KnownBytes.{Appends, Keeps};
 ghost use Rattle.eleos_base.specs.Outside.{HasRisen};
 ghost use Rattle.eleos_report.specs.Log.{log_text};
@@ -12,12 +13,11 @@ ghost use Rattle.eleos_top.specs.RunEnds.{IsRunText, RanBy};
 use crate::input::{InputError, trace_in};
 use crate::streams::put_lines;
 use crate::top::{is_only, refuse};
-use eleos_base::{List, NoMemory, Sink, Source, Status};
-use eleos_core::laws::nonces_are_fresh;
+use eleos_base::{Gate, List, NoMemory, Sink, Source, Status};
 use eleos_host::HostOpener;
 use eleos_machine::Pass;
 use eleos_report::{LogLine, push_line};
-use eleos_run::{Gate, run};
+use eleos_run::run;
 use eleos_trace::{Kind, places};
 use std::alloc::Global;
 use std::sync::Wait;
@@ -33,10 +33,13 @@ pub struct RunEnd {
     pub log: List<LogLine>,
 }
 
-/// Runs a trace over a host: reads it, lets its callers run their programs in threads, and puts the log.
+/// Runs a trace over a host: reads it, lets its callers run their programs in threads, and puts the
+/// log.
 ///
-/// With status 0 the bytes put are the log of the run: each caller's commands once and in order, and
-/// each entry of the machine's one history just one line. With another status nothing is put, the line
+/// With status 0 the bytes put are the log of the run: each caller's commands once and in order,
+/// and
+/// each entry of the machine's one history just one line. With another status nothing is put, the
+/// line
 /// that refuses the input, or a front. Where memory is wanting only when the log is printed, the
 /// callers have run, and nothing is put.
 pub fn run_top<R: Threads + Wait + Sync, S: Source, K: Sink, H: HostOpener, G: Gate + Sync>(
@@ -63,7 +66,6 @@ pub fn run_top<R: Threads + Wait + Sync, S: Source, K: Sink, H: HostOpener, G: G
         → HasRisen (K.faults sink.old) (K.faults sink.new) }
     ensures always_legal { result.status ≢ Status.NotLegal }
 {
-    nonces_are_fresh();
     if !is_only(words, "run") {
         return none_ran(alloc, Status::Usage);
     }
@@ -102,12 +104,14 @@ fn none_ran(alloc: Global, status: Status) -> RunEnd
 
 /// Puts a log. Want of memory puts nothing.
 fn put_log<K: Sink>(alloc: Global, sink: &mut K, log: &[LogLine]) -> Status
-    ensures done { result ≡ Status.Done → Appends (K.got sink.old) (K.got sink.new) (log_text log.now) }
+    ensures done { result ≡ Status.Done
+        → Appends (K.got sink.old) (K.got sink.new) (log_text log.now) }
     ensures front { result ≡ Status.WriteFault
         → (count : ℕ) × Appends (K.got sink.old) (K.got sink.new) (take count (log_text log.now)) }
     ensures failed { result ≡ Status.WriteFault → HasRisen (K.faults sink.old) (K.faults sink.new) }
     ensures memory { result ≡ Status.Memory → Keeps (K.got sink.old) (K.got sink.new) }
-    ensures only { (result ≡ Status.Done) ⊎ (result ≡ Status.WriteFault) ⊎ (result ≡ Status.Memory) }
+    ensures only { (result ≡ Status.Done) ⊎ (result ≡ Status.WriteFault) ⊎
+        (result ≡ Status.Memory) }
 {
     let Ok(text) = log_text(alloc, log) else {
         return Status::Memory;

@@ -4,8 +4,9 @@ ghost use Rattle.eleos_core.specs.Applying.{put_of};
 ghost use Rattle.eleos_host.specs.declared.hand.Answer.{Answer};
 ghost use Rattle.eleos_host.specs.Blocks.{IsBlock};
 ghost use Rattle.eleos_host.specs.Stores.{get_from};
+ghost use Rattle.eleos_meaning.specs.Meanings.{IsAct};
 ghost use Rattle.eleos_top.specs.Replays.{store_with};
-ghost use Rattle.eleos_top.specs.Scenes.{IsAct, is_done, store_after};
+ghost use Rattle.eleos_top.specs.Scenes.{is_done, store_after};
 
 use eleos_base::{Bytes, List, NoMemory};
 use eleos_core::Put;

@@ -9,19 +9,18 @@ ghost use Rattle.eleos_host.specs.Blocks.{IsBlock};
 ghost use Rattle.eleos_trace.specs.Kinds.{IsReplay};
 ghost use Rattle.eleos_trace.specs.Replays.{MayGive};
 ghost use Rattle.eleos_top.specs.Replays.{store_with};
-ghost use Rattle.eleos_top.specs.Scenes.{opening_places, places_after};
+ghost use Rattle.eleos_top.specs.Scenes.{all_after, all_names, opening_of, who_of};
 ghost use Rattle.eleos_top.specs.Sessions.{AlwaysGoesOn, Answered, Happened, Stands, StandsAfter};
 
 use crate::answer::Answer;
-use crate::headers::opening_places;
-use crate::meanings::{Meaning, meaning_of};
-use crate::places::{Places, bind_answered};
+use crate::callers::{bind_answered, meaning_for, opening_tables};
 use crate::scenes::{act, blocks_at, put_blocks};
 use eleos_base::{NoMemory, Plan};
 use eleos_core::{ApplyRefused, Core, Effect, Event};
 use eleos_gcm::Gcm;
 use eleos_host::{HostHand, HostPort};
-use eleos_trace::{Line, Trace};
+use eleos_meaning::{Meaning, NameTable};
+use eleos_trace::{Actor, Line, Trace};
 use std::alloc::Global;
 
 /// A replay between two commands.
@@ -29,8 +28,8 @@ use std::alloc::Global;
 pub struct Session {
     sealer: Gcm,
     machine: Core,
-    /// The addresses of each caller's names.
-    places: Vec<Places>,
+    /// The names of each caller.
+    names: Vec<NameTable>,
     /// How many entries there are.
     stamps: u64,
 }
@@ -42,7 +41,8 @@ impl Session {
         ensures sealer { IfOk result (λ session. session.sealer ≡ trace.now.key) }
         ensures stands { IfOk result (λ session.
             StandsAfter trace.now.plan (seals_by trace.now.key) [] session) }
-        ensures places { IfOk result (λ session. session.places.items ≡ opening_places trace.now) }
+        ensures names { IfOk result
+            (λ session. all_names session.names.items ≡ opening_of trace.now) }
     {
         let Ok(sealer) = Gcm::new(trace.key.as_slice()) else {
             unreachable!()
@@ -50,7 +50,7 @@ impl Session {
         Ok(Session {
             sealer,
             machine: Core::make(alloc, &trace.plan)?,
-            places: opening_places(alloc, trace)?,
+            names: opening_tables(alloc, trace)?,
             stamps: 0,
         })
     }
@@ -81,9 +81,10 @@ impl Session {
         ensures sealer { self.new.sealer ≡ self.old.sealer }
         ensures stamps { self.new.stamps ≤ self.old.stamps + 1 }
     {
-        match meaning_of(alloc, plan, &self.places, line)? {
+        let who = who_of(plan, line.actor);
+        match meaning_for(alloc, plan, &self.names, who, line)? {
             Meaning::Nameless => Ok(Answer::Skipped),
-            Meaning::Happens { who, event } => self.happen(alloc, host, who, &event, line),
+            Meaning::Happens(event) => self.happen(alloc, host, who, &event, line),
             Meaning::Offends(part) => Ok(Answer::Refused(part)),
             Meaning::Acts(meant) => Ok(Answer::Acted(act(host, meant))),
         }
@@ -130,8 +131,8 @@ impl Session {
         requires room { self.old.stamps < 2 ^ 63 }
         ensures answer { IfOk result (λ answer. answer
             ≡ Answer.Entered self.old.stamps effect.reply (length effect.puts)) }
-        ensures places { IfOk result (λ _. self.new.places.items
-            ≡ places_after who line.now.command effect.reply self.old.places.items) }
+        ensures names { IfOk result (λ _. all_names self.new.names.items
+            ≡ all_after who line.now.command effect.reply (all_names self.old.names.items)) }
         ensures stamps { IfOk result (λ _. self.new.stamps ≡ self.old.stamps + 1) }
         ensures store { IfOk result (λ _. P.store host.new
             ≡ option_map (λ store. store_with store (map put_of effect.puts)) (P.store host.old)) }
@@ -141,7 +142,7 @@ impl Session {
     {
         put_blocks(host, effect.puts.as_slice());
         let Effect { reply, puts } = effect;
-        bind_answered(alloc, &mut self.places, who, &line.command, &reply)?;
+        bind_answered(alloc, &mut self.names, who, &line.command, &reply)?;
         let stamp = self.stamps;
         self.stamps += 1;
         Ok(Answer::Entered {
@@ -149,5 +150,18 @@ impl Session {
             reply,
             puts: puts.len() as u64,
         })
+    }
+}
+
+/// The number that an entry of the actor has: the swapper and the balloon come after the callers.
+fn who_of(plan: &Plan, actor: Actor) -> u32
+    requires { length plan.now.callers ≤ 8 }
+    ensures { result ≡ who_of plan.now actor }
+{
+    match actor {
+        Actor::Caller(number) => number,
+        Actor::Swapper => plan.callers.len() as u32 + 1,
+        Actor::Balloon => plan.callers.len() as u32 + 2,
+        Actor::Host => 0,
     }
 }

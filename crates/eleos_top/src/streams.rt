@@ -1,14 +1,16 @@
 // All bytes of a source, and all bytes into a sink.
-ghost use Rattle.std.specs.Prelude.{◌≡◌, ◌<◌, ◌≤◌, ℕ, List, length, take, IfOk, OnOk, OnErr, IsErrOf, IfSome};
+ghost use Rattle.std.specs.Prelude.{◌≡◌, ◌<◌, ◌≤◌, ℕ, List, length, take, IfOk, OnOk, OnErr};
+ghost use Rattle.std.specs.Prelude.{IsErrOf, IfSome};
 ghost use Rattle.std.specs.Io.KnownBytes.{Appends};
 ghost use Rattle.eleos_base.specs.Outside.{HasRisen};
 
 use eleos_base::{Failed, Sink, Source};
+use eleos_texts::MOST_TEXT;
 use memchr::memchr;
 use std::alloc::Global;
 
-/// Most bytes of an input.
-const MOST: usize = 16_777_216;
+/// Bytes that a source is asked for at once.
+const PIECE: usize = 65_536;
 
 #[derive(Clone, Copy, Debug, PartialEq, Eq)]
 pub enum ReadError {
@@ -21,11 +23,13 @@ pub enum ReadError {
 pub fn read_all<S: Source>(alloc: Global, source: &mut S) -> Result<Vec<u8>, ReadError>
     ensures all { IfOk result (λ input. IfSome (S.left source.old) (λ left. input.items ≡ left)) }
     ensures most { IfOk result (λ input. length input.items ≤ 16777216) }
-    ensures large { IsErrOf result ReadError.TooLarge → IfSome (S.left source.old) (λ left. 16777216 < length left) }
-    ensures failed { IsErrOf result ReadError.Failed → HasRisen (S.faults source.old) (S.faults source.new) }
+    ensures large { IsErrOf result ReadError.TooLarge
+        → IfSome (S.left source.old) (λ left. 16777216 < length left) }
+    ensures failed { IsErrOf result ReadError.Failed
+        → HasRisen (S.faults source.old) (S.faults source.new) }
 {
     let mut input = Vec::new(alloc);
-    let mut piece = [0; 4096];
+    let mut piece = [0; PIECE];
     loop {
         let Ok(count) = source.take(&mut piece) else {
             return Err(ReadError::Failed);
@@ -33,7 +37,7 @@ pub fn read_all<S: Source>(alloc: Global, source: &mut S) -> Result<Vec<u8>, Rea
         if count == 0 {
             return Ok(input);
         }
-        if count > MOST - input.len() {
+        if count > MOST_TEXT as usize - input.len() {
             return Err(ReadError::TooLarge);
         }
         if input.extend_from_slice(&piece[..count]).is_err() {

@@ -1,8 +1,7 @@
 // The program's call on an input in memory, over hosts that have no place yet.
 
-use eleos_base::{ListSink, ListSource, Status};
+use eleos_base::{Gate, ListSink, ListSource, Status};
 use eleos_host::{SharedHost, ToldHost};
-use eleos_run::Gate;
 use eleos_top::{MainEnd, main_top};
 use std::alloc::Global;
 use std::sync::Wait;

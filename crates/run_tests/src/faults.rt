@@ -1,4 +1,5 @@
-// Sources and sinks that fail in mid-stream: what was put before, and with which status the call ends.
+// Sources and sinks that fail in mid-stream: what was put before, and with which status the call
+// ends.
 
 use crate::calls::{Call, OpenGate, made};
 use eleos_base::Status;
@@ -68,7 +69,8 @@ fn a_failed_take_puts_nothing(rt: HostRuntime) -> Result<(), Fail> {
     Ok(())
 }
 
-/// A word, what comes in, the number of the put that fails, the status, what was put before, and how many
+/// A word, what comes in, the number of the put that fails, the status, what was put before, and
+/// how many
 /// lines the log of a run has.
 const PUTS: [(&str, &str, u64, Status, &str, Option<usize>); 8] = [
     ("replay", REPLAY, 0, Status::WriteFault, NOTHING, None),

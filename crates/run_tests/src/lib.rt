@@ -1,4 +1,5 @@
-//! Tests of `eleos_top` and `eleos_run`, from bytes to bytes: what no text on the program's input shows.
+//! Tests of `eleos_top` and `eleos_run`, from bytes to bytes: what no text on the program's input
+//! shows.
 #![tactic(auto)]
 
 #[cfg(test)]

@@ -1,8 +1,7 @@
 // Two callers beside each other, where a gate holds one until the other has come further.
 
 use crate::calls::{Call, made};
-use eleos_base::Status;
-use eleos_run::Gate;
+use eleos_base::{Gate, Status};
 use std::alloc::{AllocError, Global};
 use std::process::Abort;
 use std::sync::Wait;

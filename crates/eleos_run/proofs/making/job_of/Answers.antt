@@ -1,6 +1,6 @@
 use Rattle.std.proofs.Common.{◌∙◌, ap, arith}
 use Rattle.eleos_run.specs.Lines.{program}
-use Rattle.eleos_run.specs.Names.{opening_names}
+use Rattle.eleos_meaning.specs.Names.{opening_names}
 use Rattle.eleos_run.proofs.CallerLists.{new_job}
 use Rattle.eleos_run.proofs.making.job_of.Goals as goal
 

@@ -1,5 +1,6 @@
 use Rattle.std.proofs.Common.{◌≡◌, ◌+◌, List, [], ◌∷◌, ◌++◌, length, None, sym, ap, ◌∙◌, subst, arith, append_assoc}
 use Rattle.eleos_base.specs.declared.plan.Plan.{Plan}
+use Rattle.eleos_core.proofs.Runs.{runs-plain}
 use Rattle.eleos_machine.specs.Closing.{AllOfMachine, HasClosed, close_fault}
 use Rattle.eleos_machine.specs.Passes.{PassState}
 use Rattle.eleos_report.specs.declared.line.LogLine.{LogLine}
@@ -45,4 +46,4 @@ pub returns : goal.returns
 returns g c = run_of g.P.HostPort.gave g.P.HostPort.took c.args._trace.now c.args.machine c.args.jobs.items c.args.swapper c.args.balloon c.closed-pass.result c.of-log.result (length (stamps_in c.part.new.log.items))
     c.requires.run c.requires.machine c.requires.plan c.requires.key c.requires.done c.requires.count c.requires.swapper c.requires.balloon
     (subst (λ (ss : List PassState). HasClosed c.args.machine ss c.closed-pass.result) (all_passes c.args.jobs.items c.part.new.passes.items c.with_pass-passes.result.items c.with_pass-passes-2.result.items c.args.swapper c.args.balloon c.part.ensures.passes c.with_pass-passes.ensures.passes c.with_pass-passes-2.ensures.passes) c.closed-pass.ensures)
-    c.calls_run_plain.ensures.one_run (c.of-log.ensures ∙ (c.with_end.ensures ∙ ap (λ (ls : List LogLine). ls ++ End (length (stamps_in c.part.new.log.items)) ∷ []) c.part.ensures.lines)) (ap (λ (ls : List LogLine). length (stamps_in ls)) c.part.ensures.lines)
+    runs-plain (c.of-log.ensures ∙ (c.with_end.ensures ∙ ap (λ (ls : List LogLine). ls ++ End (length (stamps_in c.part.new.log.items)) ∷ []) c.part.ensures.lines)) (ap (λ (ls : List LogLine). length (stamps_in ls)) c.part.ensures.lines)

@@ -1,5 +1,5 @@
 use Rattle.std.proofs.Common.{[], ◌∷◌, length, ap, arith, length-append}
-use Rattle.eleos_run.proofs.CallerLists.{popped, some_passes}
+use Rattle.eleos_run.proofs.CallerLists.{all_done, new_at, popped, some_passes}
 use Rattle.eleos_run.proofs.runs.run_on.Goals as goal
 
 pub last_pass-balloon-requires : goal.last_pass-balloon-requires
@@ -24,3 +24,9 @@ pub finish-requires-clause-balloon : goal.finish-requires-clause-balloon
 finish-requires-clause-balloon g c =
     (popped c.args.machine (length c.args.trace.now.plan.callers) c.args.passes.items c.last_pass-balloon.new.passes.items c.last_pass-swapper.new.passes.items c.last_pass-balloon.result c.last_pass-swapper.result
     c.last_pass-balloon.ensures c.last_pass-swapper.ensures c.requires.passes).2
+
+pub perform_each-requires-clause-ready : goal.perform_each-requires-clause-ready
+perform_each-requires-clause-ready g c _ _ = new_at c.args.trace.now c.args.machine 0 c.in_ok-jobs.jobs.items c.in_ok-jobs.ensures.jobs
+
+pub finish-requires-clause-done : goal.finish-requires-clause-done
+finish-requires-clause-done g c = all_done g.H.Port.HostPort.gave g.H.Port.HostPort.took c.args.trace.now c.args.machine 0 c.in_ok-jobs.jobs.items c.perform_each.new.jobs.items c.in_ok-jobs.ensures.jobs c.perform_each.ensures.count c.perform_each.ensures.ran

@@ -3,7 +3,8 @@ use Rattle.std.proofs.lemmas.List.{map-append}
 use Rattle.eleos_trace.specs.declared.trace.Line.{Line}
 use Rattle.eleos_run.specs.declared.tasks.Task.{Task}
 use Rattle.eleos_run.specs.Lines.{commands_by, is_by}
-use Rattle.eleos_run.specs.NameTable.{Rooms, names_in}
+use Rattle.eleos_meaning.specs.declared.names.NameTable.{NameTable}
+use Rattle.eleos_meaning.specs.NameTable.{names_in}
 use Rattle.eleos_run.specs.Tasks.{AllReady}
 use Rattle.eleos_run.proofs.TaskLists.{commands_more, ready_more}
 use Rattle.eleos_run.proofs.tasks.tasks_of.Goals as goal
@@ -19,15 +20,15 @@ loop-line-preserved c = let inv = c.loop-line.invariant in let at : ℕ = c.loop
           record {
             commands = ap (map (λ (t : Task). t.command)) items ∙ (map-append (λ (t : Task). t.command) old (task ∷ []) ∙ ((λ i. inv.commands i ++ (w.in_ok-task_of.ensures.command ∙ ap (λ (l : Line). l.command) here) i ∷ [])
                 ∙ sym (commands_more c.args.who lines at line true c.loop-line-test.true mine)));
-            ready = subst (λ (z : Rooms × List Task). AllReady z.0 z.1) (λ i. (ap (λ n. n.rooms.entries) (sym w.names-is) i, sym items i))
-                (ready_more c.loop-line.names.rooms.entries w.task_of.new.names.rooms.entries old task w.in_ok-task_of.ensures.others inv.ready w.in_ok-task_of.ensures.ready);
-            names = ap (λ n. names_in n.rooms.entries) w.names-is ∙ (w.in_ok-task_of.ensures.names ∙ inv.names);
+            ready = subst (λ (z : NameTable × List Task). AllReady z.0 z.1) (λ i. (sym w.names-is i, sym items i))
+                (ready_more c.loop-line.names w.task_of.new.names old task w.in_ok-task_of.ensures.others inv.ready w.in_ok-task_of.ensures.ready);
+            names = ap names_in w.names-is ∙ (w.in_ok-task_of.ensures.names ∙ inv.names);
           }
       | else-is_by w ↦
           let other : is_by c.args.who (get_or lines at line).actor ≡ false = ap (λ (l : Line). is_by c.args.who l.actor) (sym here) ∙ (sym c.is_by.ensures ∙ w.if-is_by.false) in
           record {
             commands = ap (λ q. map (λ (t : Task). t.command) q.items) w.tasks-is ∙ (inv.commands ∙ sym (commands_more c.args.who lines at line false c.loop-line-test.true other ∙ append-nil (commands_by c.args.who (take at lines))));
-            ready = subst (λ (z : Rooms × List Task). AllReady z.0 z.1) (λ i. (ap (λ n. n.rooms.entries) (sym w.names-is) i, ap (λ q. q.items) (sym w.tasks-is) i)) inv.ready;
-            names = ap (λ n. names_in n.rooms.entries) w.names-is ∙ inv.names;
+            ready = subst (λ (z : NameTable × List Task). AllReady z.0 z.1) (λ i. (sym w.names-is i, ap (λ q. q.items) (sym w.tasks-is) i)) inv.ready;
+            names = ap names_in w.names-is ∙ inv.names;
           }
     ]

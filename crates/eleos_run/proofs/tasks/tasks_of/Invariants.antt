@@ -1,6 +1,6 @@
 use Rattle.std.proofs.Common.{◌≡◌, map, take}
 use Rattle.eleos_run.specs.Lines.{commands_by}
-use Rattle.eleos_run.specs.NameTable.{names_in}
+use Rattle.eleos_meaning.specs.NameTable.{names_in}
 use Rattle.eleos_run.specs.Tasks.{AllReady}
 use Rattle.eleos_run.proofs.tasks.tasks_of.Given as goal
 
@@ -8,6 +8,6 @@ use Rattle.eleos_run.proofs.tasks.tasks_of.Given as goal
 abbrev pub invariant-loop-line : goal.invariant-loop-line
 invariant-loop-line l = record {
   commands : map (λ task. task.command) l.tasks.items ≡ commands_by l.who (take l.line-index l.line-items);
-  ready : AllReady l.names.rooms.entries l.tasks.items;
-  names : names_in l.names.rooms.entries ≡ names_in l.initial.names.rooms.entries;
+  ready : AllReady l.names l.tasks.items;
+  names : names_in l.names ≡ names_in l.initial.names;
 }

@@ -1,0 +1,2 @@
+pub mod HeaderBlocks
+pub mod NameTables

@@ -1,6 +1,0 @@
-use Rattle.eleos_top.proofs.HeaderBlocks.{Stands}
-use Rattle.eleos_top.proofs.headers.header_places.Given as goal
-
--- the header blocks so far stand one behind the other, and their names have their addresses
-abbrev pub invariant-loop-i : goal.invariant-loop-i
-invariant-loop-i l = Stands l.trace.plan l.home l.trace.names l.i l.start l.places
