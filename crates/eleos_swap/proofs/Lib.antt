@@ -1,0 +1,10 @@
+pub mod Notes
+pub mod Listed
+pub mod Steps
+pub mod Beginning
+pub mod Ending
+pub mod Surveying
+pub mod RoundEnds
+pub mod Evicting
+pub mod Going
+pub mod Whole
