@@ -14,7 +14,7 @@ use Rattle.eleos_turn.specs.declared.answers.Refused.{Refused}
 use Rattle.eleos_turn.specs.declared.view.View.{View}
 use Rattle.eleos_turn.specs.Numbers.{times, numbers_of, most_of, most_pins}
 use Rattle.eleos_turn.specs.Rule.{Apart, IsAtRest}
-use Rattle.eleos_turn.specs.Views.{hand_of, freed, pinned, unpinned, harked}
+use Rattle.eleos_turn.specs.Views.{hand_of, freed, pinned, unpinned, observed}
 use Rattle.eleos_turn.specs.Plays.{SeatTook, SeatStamped, SeatCanStamp, SeesMore}
 use Rattle.eleos_turn.specs.Hands.{Home, HandState, no_refusal, fresh, dealt, state_of, view_of, with_turn, without_turn, with_entry, with_pin, without_pin, looked_at, refused_at, tied_to, links, links_on, CanStamp, Stamped, IsSound, IsHand, tallied}
 use Rattle.eleos_turn.proofs.Numbers.{here, less_exact, times_has}
@@ -153,7 +153,7 @@ module _ {C D Q G : Type 0} (t : Terms C D Q G) where
 
   -- the seat of a hand of `split`, or of one that was joined, has no numbers, turns or pins
   pub fits_heard : (z z' : TableId) (k : ℕ) (r : Refused) (m m' : M) (stamps held tied : ℕ) (o : S) (more : List (Event D Q)) → IsHand t (state_of z k r m.0) m stamps held tied → z' ≡ z → IsSound t o → o.number ≡ 0
-      → m'.0 ≡ record (harked m.0 (view_of o)) { seen = m.0.seen ++ more; told = [] } → SeesMore t (harked m.0 (view_of o)) more → length (m.0.seen ++ more) + m'.0.left ≤ m'.0.base.hands * m'.0.base.each → m'.1 ≡ m.1
+      → m'.0 ≡ record (observed m.0 (view_of o)) { seen = m.0.seen ++ more; told = [] } → SeesMore t (observed m.0 (view_of o)) more → length (m.0.seen ++ more) + m'.0.left ≤ m'.0.base.hands * m'.0.base.each → m'.1 ≡ m.1
       → IsHand t (state_of z' k r m'.0) m' stamps held tied
   fits_heard z z' k r m m' stamps held tied o more i same k' split now sees room rest = let s : S = state_of z k r m.0 in let idle = k'.idle split in
       let no_numbers : numbers_of o.number ≡ [] = ap numbers_of split in let no_most : most_of o.number ≡ 0 = ap most_of split in

@@ -16,7 +16,7 @@ use Rattle.eleos_turn.specs.declared.view.View.{View}
 use Rattle.eleos_turn.specs.Numbers.{times, above, total, most_pins, longer, shorter}
 use Rattle.eleos_turn.specs.Words.{word_of, words_for}
 use Rattle.eleos_turn.specs.Rule.{Apart, SeatOk, Kept, gone}
-use Rattle.eleos_turn.specs.Views.{dealing, dealt_from, dealt_to, noted, joined, harked}
+use Rattle.eleos_turn.specs.Views.{dealing, dealt_from, dealt_to, observer_of, joined, observed}
 use Rattle.eleos_turn.proofs.Numbers.{tested, here, else, above_more, above_has, total_same, total_set, total_snoc}
 use Rattle.eleos_turn.proofs.Keeps as kept
 use Rattle.eleos_turn.proofs.Keeps.{length_here}
@@ -138,8 +138,8 @@ module _ {C D Q G : Type 0} (t : Terms C D Q G) (b : Base Q G) where
       (λ (ne : k ≢ a + 1). inr (else_is k ne, λ h. ⊎_elim (λ (e : k ≡ a + 1). absurd (ne e)) (λ (q : Has k (above (a + 1) n)). q) h)))
 
   -- a note of what a seat has seen is cut off
-  pub notes : (id : ℕ) (v : V) → Splits Rule id v v (noted v)
-  notes id v s r at = let ok = r.each_seat id v at in cut s r id v v (noted v) r.owner at refl refl refl (omega arith) (omega arith) ok
+  pub observers : (id : ℕ) (v : V) → Splits Rule id v v (observer_of v)
+  observers id v s r at = let ok = r.each_seat id v at in cut s r id v v (observer_of v) r.owner at refl refl refl (omega arith) (omega arith) ok
       record {
         base_is = ok.base_is;
         unseen = ok.unseen;
@@ -308,8 +308,8 @@ module _ {C D Q G : Type 0} (t : Terms C D Q G) (b : Base Q G) where
   of_none (e ∷ es) = ((λ h. h), (λ c h _. h), of_none es)
 
   -- the same of a seat that has no numbers either: what it has seen is only told to the other
-  pub harks : (id other : ℕ) (v w : V) → w.held ≡ [] → w.numbers ≡ [] → Joins Rule id v other w (harked v w) (gone t)
-  harks id other v w idle nobody = joins_as id other v w v.seen w.seen idle (λ h u u' see see' a a'. ((u, see, apart_both v.numbers w.numbers v.held u a (subst (λ (l : List ℕ). Apart t b.grounds l [] u) (sym nobody) (of_none u))), (u', see')))
+  pub observes : (id other : ℕ) (v w : V) → w.held ≡ [] → w.numbers ≡ [] → Joins Rule id v other w (observed v w) (gone t)
+  observes id other v w idle nobody = joins_as id other v w v.seen w.seen idle (λ h u u' see see' a a'. ((u, see, apart_both v.numbers w.numbers v.held u a (subst (λ (l : List ℕ). Apart t b.grounds l [] u) (sym nobody) (of_none u))), (u', see')))
 
   cell_open : (items : List C) (c : ℕ) (z : Q) → c < length items → (x : C) × (get_elem? (map some (map Some items)) c ≡ some (some (Some x))) × (t.part x ≡ get_or (map t.part items) c z)
   cell_open [] c z l = absurd (omega arith)

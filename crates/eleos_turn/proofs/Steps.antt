@@ -19,7 +19,7 @@ use Rattle.eleos_base.specs.Words.{pins_in}
 use Rattle.eleos_turn.specs.Words.{word_of}
 use Rattle.eleos_turn.specs.Rule.{SeatOk, Kept}
 use Rattle.eleos_turn.specs.Views.{Room, busied, moved, freed, stamped, pinned, unpinned}
-use Rattle.eleos_turn.specs.Plays.{SeesMore, Turn, takes_turn, lays, fetches, gives_turn, stays, looks, Shows, hears, pins_one, unpins_one, stamps_one, SeatCanStamp}
+use Rattle.eleos_turn.specs.Plays.{SeesMore, Turn, takes_turn, ends_take, begins_give, gives_turn, stays, looks, Shows, catches_up, pins_one, unpins_one, stamps_one, SeatCanStamp}
 use Rattle.eleos_turn.proofs.Numbers.{or_odd, and_even, and_odd, or_pins, and_pins, or_low, and_low, parity, tested, here, else, without_has, has_none, has_less, less_has, less_once, pigeons, times_here, times_else, less_here, less_else, less_length, total_set, total_same, total_one, total_two}
 use Rattle.eleos_turn.proofs.Histories.{put_else, put_same, made_append, tied_below, linked_append, legal_append, signed_append, apart_append, apart_less, linked_signed}
 use Rattle.eleos_turn.proofs.Keeps as kept
@@ -169,9 +169,9 @@ module _ {C D Q G : Type 0} (t : Terms C D Q G) (b : Base Q G) where
       }))
 
   -- a seat that has the turn may lay the slot back empty
-  pub slot_laid : (slots id i : ℕ) (me : M) (c : ℕ) → me.1 ≡ (c, None) ∷ [] → me.0.moving ≡ c + 1 → Has c me.0.held → Allows Rule slots id me i (λ n. n) (lays t (at_step slots i 0 0 none) me)
-  slot_laid slots id i me c carries moves has s r deep at small = let v : V = me.0 in let w : V = moved v 0 in let as_deep = r.deep in let x = (r.each_seat id v at).turns c has in
-      let P : List (ℕ × Option C) → Type 0 = λ l. (w' : V) × (a : Act (Option C)) × Valid s.homes l a × Rule (stepped s i (get_or s.words i 0) id l w' a) × lays t (at_step slots i 0 0 none) (v, l) (get_or s.words i 0) (w', carried_after l a) in
+  pub take_ended : (slots id i : ℕ) (me : M) (c : ℕ) → me.1 ≡ (c, None) ∷ [] → me.0.moving ≡ c + 1 → Has c me.0.held → Allows Rule slots id me i (λ n. n) (ends_take t (at_step slots i 0 0 none) me)
+  take_ended slots id i me c carries moves has s r deep at small = let v : V = me.0 in let w : V = moved v 0 in let as_deep = r.deep in let x = (r.each_seat id v at).turns c has in
+      let P : List (ℕ × Option C) → Type 0 = λ l. (w' : V) × (a : Act (Option C)) × Valid s.homes l a × Rule (stepped s i (get_or s.words i 0) id l w' a) × ends_take t (at_step slots i 0 0 none) (v, l) (get_or s.words i 0) (w', carried_after l a) in
       subst P (sym carries) (
         w,
         gives,
@@ -181,8 +181,8 @@ module _ {C D Q G : Type 0} (t : Terms C D Q G) (b : Base Q G) where
       )
 
   -- a seat that has the turn of a cell may fetch its slot
-  pub slot_fetched : (slots id : ℕ) (me : M) (c : ℕ) → me.0.moving ≡ 0 → Has c me.0.held → Allows Rule slots id me (word_of c) (λ n. n) (fetches t (at_step slots (word_of c) 0 0 none) me)
-  slot_fetched slots id me c rests has s r deep at small = let v : V = me.0 in let w : V = moved v (c + 1) in let ok = r.each_seat id v at in let x = ok.turns c has in (
+  pub give_begun : (slots id : ℕ) (me : M) (c : ℕ) → me.0.moving ≡ 0 → Has c me.0.held → Allows Rule slots id me (word_of c) (λ n. n) (begins_give t (at_step slots (word_of c) 0 0 none) me)
+  give_begun slots id me c rests has s r deep at small = let v : V = me.0 in let w : V = moved v (c + 1) in let ok = r.each_seat id v at in let x = ok.turns c has in (
     w,
     takes c None,
     x.3 (λ e. absurd (omega arith)),
@@ -263,7 +263,7 @@ module _ {C D Q G : Type 0} (t : Terms C D Q G) (b : Base Q G) where
       )
 
   -- a seat may hear the whole history
-  pub heard : (slots id i : ℕ) (me : M) → 0 < me.0.base.hands → Allows Rule slots id me i (λ n. n) (hears t (at_step slots i 0 0 none) me)
+  pub heard : (slots id i : ℕ) (me : M) → 0 < me.0.base.hands → Allows Rule slots id me i (λ n. n) (catches_up t (at_step slots i 0 0 none) me)
   heard slots id i me alive s r deep at small = let v : V = me.0 in let ok = r.each_seat id v at in let w : V = record v { seen = v.seen ++ ok.unseen; told = [] } in (
     w,
     keeps,

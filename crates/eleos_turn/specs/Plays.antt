@@ -41,12 +41,12 @@ module _ {C D Q G : Type 0} (t : Terms C D Q G) where
       × ((c : ℕ) → st.word ≡ word_of c → times c m.0.pins ≤ pins_in n)
 
   -- the slot that was carried is back
-  abbrev pub lays : At → Sat → ℕ → Sat → Type 0
-  lays st m n m' = m' ≡ (moved m.0 0, [])
+  abbrev pub ends_take : At → Sat → ℕ → Sat → Type 0
+  ends_take st m n m' = m' ≡ (moved m.0 0, [])
 
   -- the slot of a cell whose turn it has is out
-  abbrev pub fetches : At → Sat → ℕ → Sat → Type 0
-  fetches st m n m' = (c : ℕ) → st.word ≡ word_of c → m' ≡ (moved m.0 (c + 1), (c, None) ∷ m.1)
+  abbrev pub begins_give : At → Sat → ℕ → Sat → Type 0
+  begins_give st m n m' = (c : ℕ) → st.word ≡ word_of c → m' ≡ (moved m.0 (c + 1), (c, None) ∷ m.1)
 
   -- the slot that was carried is back, and the turn is given up
   abbrev pub gives_turn : At → Sat → ℕ → Sat → Type 0
@@ -61,13 +61,13 @@ module _ {C D Q G : Type 0} (t : Terms C D Q G) where
   looks st m n m' = (c : ℕ) → st.word ≡ word_of c → (m' ≡ (record m.0 { looked = (c, n); looks = m.0.looks + 1 }, m.1)) × Shows m.0 c n
 
   -- the whole history is seen, and what was told begins it
-  abbrev pub hears_all : Sat → Sat → Type 0
-  hears_all m m' = (more : List (Event D Q)) × (m' ≡ (record m.0 { seen = m.0.seen ++ more; told = [] }, m.1)) × SeesMore m.0 more
+  abbrev pub has_caught_up : Sat → Sat → Type 0
+  has_caught_up m m' = (more : List (Event D Q)) × (m' ≡ (record m.0 { seen = m.0.seen ++ more; told = [] }, m.1)) × SeesMore m.0 more
       × ((rest : List (Event D Q)) × (m.0.seen ++ more ≡ m.0.told ++ rest)) × (length (m.0.seen ++ more) + m.0.left ≤ m.0.base.hands * m.0.base.each)
 
   -- the same, as a step
-  abbrev pub hears : At → Sat → ℕ → Sat → Type 0
-  hears st m n m' = hears_all m m'
+  abbrev pub catches_up : At → Sat → ℕ → Sat → Type 0
+  catches_up st m n m' = has_caught_up m m'
 
   -- one pin more
   abbrev pub pins_one : At → Sat → ℕ → Sat → Type 0

@@ -16,8 +16,8 @@ module _ {D Q G : Type 0} where
   hand_of b k = record { base = b; numbers = k ∷ []; seen = []; held = []; clean = []; moving = 0; pins = []; told = []; looked = (0, 0); looks = 0; tried = (0, 0); misses = 0; left = b.each; most = most_pins }
 
   -- a hand that has seen as much, and may do nothing
-  abbrev pub noted : View D Q G → View D Q G
-  noted v = record { base = v.base; numbers = []; seen = v.seen; held = []; clean = []; moving = 0; pins = []; told = []; looked = (0, 0); looks = 0; tried = (0, 0); misses = 0; left = 0; most = 0 }
+  abbrev pub observer_of : View D Q G → View D Q G
+  observer_of v = record { base = v.base; numbers = []; seen = v.seen; held = []; clean = []; moving = 0; pins = []; told = []; looked = (0, 0); looks = 0; tried = (0, 0); misses = 0; left = 0; most = 0 }
 
   -- the hands that are left where the first of them is dealt
   abbrev pub dealt_from : View D Q G → View D Q G
@@ -32,8 +32,8 @@ module _ {D Q G : Type 0} where
   joined v w = record v { numbers = v.numbers ++ w.numbers; seen = longer v.seen w.seen; told = shorter v.seen w.seen; pins = v.pins ++ w.pins; left = v.left + w.left; most = v.most + w.most }
 
   -- the same where the second may do nothing: what it has seen is told alone
-  abbrev pub harked : View D Q G → View D Q G → View D Q G
-  harked v w = record v { numbers = v.numbers ++ w.numbers; told = w.seen; pins = v.pins ++ w.pins; left = v.left + w.left; most = v.most + w.most }
+  abbrev pub observed : View D Q G → View D Q G → View D Q G
+  observed v w = record v { numbers = v.numbers ++ w.numbers; told = w.seen; pins = v.pins ++ w.pins; left = v.left + w.left; most = v.most + w.most }
 
   -- it carries the slot of the cell k - 1, or none where k is 0
   abbrev pub moved : View D Q G → ℕ → View D Q G

@@ -104,7 +104,7 @@ fn gather<P: Plot>(cells: &CellTable<P>, seat: &mut Place<P>, hands: Vec<Hand<P>
 {
     let mut hands = hands;
     while let Some(hand) = hands.pop() {
-        cells.hear(seat, hand.into_seat());
+        cells.absorb(seat, hand.into_seat());
     }
     hands.destroy_empty();
 }
@@ -131,7 +131,7 @@ fn settle<P: Plot>(cells: &CellTable<P>, hands: Vec<Hand<P>>) -> Place<P>
     };
     let mut seat = first.into_seat();
     gather(cells, &mut seat, hands);
-    cells.hear_all(&mut seat);
+    cells.catch_up(&mut seat);
     seat
 }
 
@@ -184,9 +184,9 @@ fn noted_hand<P: Plot>(cells: &CellTable<P>, seat: &mut Place<P>) -> Hand<P>
     ensures seen { result.seen ≡ seat.old.me.0.seen }
     ensures sound { IsSound P.terms result }
 {
-    let note = cells.note(seat);
+    let observer = cells.observer(seat);
     Hand {
-        seat: note,
+        seat: observer,
         number: 0,
         left: 0,
         turns: 0,

@@ -1,7 +1,7 @@
 //! What each step on the table tells.
-ghost use Rattle.eleos_turn.specs.Plays.{takes_turn, lays, fetches, gives_turn, stays, looks};
-ghost use Rattle.eleos_turn.specs.Plays.{hears, pins_one, unpins_one, stamps_one};
-ghost use Rattle.eleos_turn.specs.Views.{dealt_from, dealt_to, noted, joined, harked};
+ghost use Rattle.eleos_turn.specs.Plays.{takes_turn, ends_take, begins_give, gives_turn, stays, looks};
+ghost use Rattle.eleos_turn.specs.Plays.{catches_up, pins_one, unpins_one, stamps_one};
+ghost use Rattle.eleos_turn.specs.Views.{dealt_from, dealt_to, observer_of, joined, observed};
 ghost use Rattle.eleos_turn.specs.Rule.{gone};
 
 use crate::slot::Slot;
@@ -18,20 +18,20 @@ impl<P: Plot, N: Missed> Play<Slot<P::Cell>, View<P::Draft, P::Part, P::Ground>>
     ghost then = { takes_turn P.terms N.missed };
 }
 
-pub(crate) struct Lay<P> {
+pub(crate) struct EndTake<P> {
     plot: PhantomData<P>,
 }
 
-impl<P: Plot> Play<Slot<P::Cell>, View<P::Draft, P::Part, P::Ground>> for Lay<P> {
-    ghost then = { lays P.terms };
+impl<P: Plot> Play<Slot<P::Cell>, View<P::Draft, P::Part, P::Ground>> for EndTake<P> {
+    ghost then = { ends_take P.terms };
 }
 
-pub(crate) struct Fetch<P> {
+pub(crate) struct BeginGive<P> {
     plot: PhantomData<P>,
 }
 
-impl<P: Plot> Play<Slot<P::Cell>, View<P::Draft, P::Part, P::Ground>> for Fetch<P> {
-    ghost then = { fetches P.terms };
+impl<P: Plot> Play<Slot<P::Cell>, View<P::Draft, P::Part, P::Ground>> for BeginGive<P> {
+    ghost then = { begins_give P.terms };
 }
 
 pub(crate) struct Give<P> {
@@ -58,12 +58,12 @@ impl<P: Plot> Play<Slot<P::Cell>, View<P::Draft, P::Part, P::Ground>> for Unref<
     ghost then = { stays P.terms };
 }
 
-pub(crate) struct Know<P> {
+pub(crate) struct CatchUp<P> {
     plot: PhantomData<P>,
 }
 
-impl<P: Plot> Play<Slot<P::Cell>, View<P::Draft, P::Part, P::Ground>> for Know<P> {
-    ghost then = { hears P.terms };
+impl<P: Plot> Play<Slot<P::Cell>, View<P::Draft, P::Part, P::Ground>> for CatchUp<P> {
+    ghost then = { catches_up P.terms };
 }
 
 pub(crate) struct Pin<P> {
@@ -99,30 +99,30 @@ impl<D, Q, G> Split<View<D, Q, G>> for Deal {
     ghost right = { dealt_to };
 }
 
-pub(crate) struct Note;
+pub(crate) struct SplitObserver;
 
-impl<D, Q, G> Split<View<D, Q, G>> for Note {
+impl<D, Q, G> Split<View<D, Q, G>> for SplitObserver {
     ghost left = { λ v. v };
 
-    ghost right = { noted };
+    ghost right = { observer_of };
 }
 
-pub(crate) struct Hear<P> {
+pub(crate) struct Absorb<P> {
     plot: PhantomData<P>,
 }
 
-impl<P: Plot> Join<View<P::Draft, P::Part, P::Ground>> for Hear<P> {
+impl<P: Plot> Join<View<P::Draft, P::Part, P::Ground>> for Absorb<P> {
     ghost both = { joined };
 
     ghost spent = { gone P.terms };
 }
 
-pub(crate) struct Hark<P> {
+pub(crate) struct Observe<P> {
     plot: PhantomData<P>,
 }
 
-impl<P: Plot> Join<View<P::Draft, P::Part, P::Ground>> for Hark<P> {
-    ghost both = { harked };
+impl<P: Plot> Join<View<P::Draft, P::Part, P::Ground>> for Observe<P> {
+    ghost both = { observed };
 
     ghost spent = { gone P.terms };
 }

@@ -10,7 +10,8 @@ ghost use Rattle.eleos_base.specs.Words.{IsPlain, pins_in};
 
 use crate::answers::Taken;
 use crate::plays::{
-    Fetch, Give, Hark, Hear, Know, Lay, Look, Note, Pin, Stamp, Take, Unpin, Unref,
+    Absorb, BeginGive, CatchUp, EndTake, Give, Look, Observe, Pin, SplitObserver, Stamp, Take,
+    Unpin, Unref,
 };
 use crate::slot::Slot;
 use crate::view::{Asked, Key, Missed, Place, Turns, View, Waits};
@@ -48,9 +49,9 @@ impl<P: Plot> CellTable<P> {
     ghost use Rattle.eleos_base.specs.declared.plot.Event.{Event};
     ghost use Rattle.eleos_base.specs.Histories.{linked};
     ghost use Rattle.eleos_turn.specs.Numbers.{times, longer};
-    ghost use Rattle.eleos_turn.specs.Views.{freed, pinned, unpinned, noted, harked, joined};
+    ghost use Rattle.eleos_turn.specs.Views.{freed, pinned, unpinned, observer_of, observed, joined};
     ghost use Rattle.eleos_turn.specs.Plays.{SeatTook, SeatStamped, SeatCanStamp, SeesMore, Shows};
-    ghost use Rattle.eleos_turn.specs.Plays.{hears_all};
+    ghost use Rattle.eleos_turn.specs.Plays.{has_caught_up};
 
     pub(crate) fn into_shared(self) -> Shared<P>
         ensures table { result ≡ self.table }
@@ -102,7 +103,7 @@ impl<P: Plot> CellTable<P> {
             .exchange(seat, cell as usize, Slot::of(None));
         self.table
             .shared
-            .load::<Lay<P>>(seat, (cell as usize + 1) * APART);
+            .load::<EndTake<P>>(seat, (cell as usize + 1) * APART);
         Ok(Taken {
             word,
             value: slot.into_value().unwrap(),
@@ -151,7 +152,7 @@ impl<P: Plot> CellTable<P> {
     {
         self.table
             .shared
-            .load::<Fetch<P>>(seat, (cell as usize + 1) * APART);
+            .load::<BeginGive<P>>(seat, (cell as usize + 1) * APART);
         let empty = self
             .table
             .shared
@@ -240,17 +241,17 @@ impl<P: Plot> CellTable<P> {
     }
 
     // A second seat that has seen as much.
-    pub(crate) fn note(&self, seat: &mut Place<P>) -> Place<P>
+    pub(crate) fn observer(&self, seat: &mut Place<P>) -> Place<P>
         requires own { seat.old.table_id ≡ self.now.table.shared.table_id }
         ensures same { (seat.new.table_id ≡ seat.old.table_id) × (seat.new.me ≡ seat.old.me) }
         ensures given { (result.table_id ≡ seat.old.table_id)
-            × (result.me ≡ (noted seat.old.me.0, [])) }
+            × (result.me ≡ (observer_of seat.old.me.0, [])) }
     {
-        self.table.shared.split_seat::<Note>(seat)
+        self.table.shared.split_seat::<SplitObserver>(seat)
     }
 
     // From now on the seat has the numbers of the other, and has seen what it has seen.
-    pub(crate) fn hear(&self, seat: &mut Place<P>, other: Place<P>)
+    pub(crate) fn absorb(&self, seat: &mut Place<P>, other: Place<P>)
         requires own { (seat.old.table_id ≡ self.now.table.shared.table_id)
             × (other.table_id ≡ self.now.table.shared.table_id) }
         requires idle { (other.me.1 ≡ []) × (other.me.0.held ≡ [])
@@ -264,12 +265,12 @@ impl<P: Plot> CellTable<P> {
             × (seat.new.me.0.seen ≡ seat.old.me.0.seen ++ more)) × ((more : List
             (Event P.Draft P.Part)) × (seat.new.me.0.seen ≡ other.me.0.seen ++ more)) }
     {
-        self.table.shared.join_seat::<Hear<P>>(seat, other);
-        self.table.shared.load::<Know<P>>(seat, 0);
+        self.table.shared.join_seat::<Absorb<P>>(seat, other);
+        self.table.shared.load::<CatchUp<P>>(seat, 0);
     }
 
     // From now on the seat has seen the whole history, and what the other has seen begins it.
-    pub(crate) fn hark(&self, seat: &mut Place<P>, other: Place<P>)
+    pub(crate) fn observe(&self, seat: &mut Place<P>, other: Place<P>)
         requires own { (seat.old.table_id ≡ self.now.table.shared.table_id)
             × (other.table_id ≡ self.now.table.shared.table_id) }
         requires idle { (other.me.1 ≡ []) × (other.me.0.held ≡ []) × (other.me.0.numbers ≡ [])
@@ -278,24 +279,24 @@ impl<P: Plot> CellTable<P> {
             × (seat.new.me.1 ≡ seat.old.me.1) }
         ensures heard { (more : List (Event P.Draft P.Part))
             × (seat.new.me.0 ≡ record
-            (harked seat.old.me.0 other.me.0) { seen = seat.old.me.0.seen ++ more; told = [] })
-            × SeesMore P.terms (harked seat.old.me.0 other.me.0) more × (length (seat.old.me.0.seen
+            (observed seat.old.me.0 other.me.0) { seen = seat.old.me.0.seen ++ more; told = [] })
+            × SeesMore P.terms (observed seat.old.me.0 other.me.0) more × (length (seat.old.me.0.seen
             ++ more) + seat.new.me.0.left ≤ seat.new.me.0.base.hands * seat.new.me.0.base.each) }
         ensures begins { (rest : List (Event P.Draft P.Part))
             × (seat.new.me.0.seen ≡ other.me.0.seen ++ rest) }
     {
-        self.table.shared.join_seat::<Hark<P>>(seat, other);
-        self.table.shared.load::<Know<P>>(seat, 0);
+        self.table.shared.join_seat::<Observe<P>>(seat, other);
+        self.table.shared.load::<CatchUp<P>>(seat, 0);
     }
 
     // From now on the seat has seen the whole history.
-    pub(crate) fn hear_all(&self, seat: &mut Place<P>)
+    pub(crate) fn catch_up(&self, seat: &mut Place<P>)
         requires own { seat.old.table_id ≡ self.now.table.shared.table_id }
         requires alive { 0 < seat.old.me.0.base.hands }
         ensures same { seat.new.table_id ≡ seat.old.table_id }
-        ensures heard { hears_all P.terms seat.old.me seat.new.me }
+        ensures heard { has_caught_up P.terms seat.old.me seat.new.me }
     {
-        self.table.shared.load::<Know<P>>(seat, 0);
+        self.table.shared.load::<CatchUp<P>>(seat, 0);
     }
 }
 

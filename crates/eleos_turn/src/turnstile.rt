@@ -203,7 +203,7 @@ impl<P: Plot> Turnstile<P> {
         ensures given { result ≡ split_of hand.old }
         ensures sound { IsSound P.terms result }
     {
-        let seat = self.cells.note(&mut hand.seat);
+        let seat = self.cells.observer(&mut hand.seat);
         Hand {
             seat,
             number: 0,
@@ -226,7 +226,7 @@ impl<P: Plot> Turnstile<P> {
         ensures heard { Heard P.terms into.old other into.new }
         ensures sound { IsSound P.terms into.new }
     {
-        self.cells.hark(&mut into.seat, other.into_seat());
+        self.cells.observe(&mut into.seat, other.into_seat());
     }
 
     // The table, and the room that `make` took for the values.

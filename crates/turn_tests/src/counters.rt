@@ -3,6 +3,7 @@
 ghost use Rattle.std.specs.Prelude.{◌≡◌, ◌+◌, ◌<◌, [], length, IfErr};
 ghost use Rattle.eleos_turn.specs.Hands.{looked_at};
 ghost use Rattle.eleos_base.specs.Words.{IsBusy};
+ghost use Rattle.turn_tests.specs.Row.{IsReady};
 
 use eleos_base::{Plot, Tied};
 use eleos_turn::{Busy, Hand, Taken, Turnstile};
@@ -23,10 +24,16 @@ pub struct Raise {
 
 pub struct Counters;
 
+/// A row of counters that threads share.
+pub type Row = Turnstile<Counters>;
+
+/// A hand of such a row.
+pub type RowHand = Hand<Counters>;
+
 impl Plot for Counters {
-    ghost use Rattle.std.specs.Prelude.{◌≡◌, ℕ, ◌+◌, ◌∷◌, option_to_list};
-    ghost use Rattle.std.proofs.Common.{sym, ap, ◌∙◌, []};
-    ghost use Rattle.eleos_base.specs.Ties.{Has, neither};
+    ghost use Rattle.std.specs.Prelude.{◌+◌};
+    ghost use Rattle.std.proofs.Common.{sym, ap, ◌∙◌};
+    ghost use Rattle.turn_tests.specs.Row.{row};
 
     type Cell = Counter;
 
@@ -36,7 +43,7 @@ impl Plot for Counters {
 
     type Ground = ();
 
-    ghost terms = { record { part = λ c. c.count; blank = 0; nowhere = tt; who = λ e. e.by; foot = λ _ e. e.first ∷ option_to_list e.second; step = λ _ e b a. (c : ℕ) → Has c (e.first ∷ option_to_list e.second) → a c ≡ b c + 1; bare = λ _ _. []; tie = λ _ _. neither } };
+    ghost terms = { row };
 
     fn tied(_draft: &Raise) -> Tied {
         Tied::No
@@ -47,7 +54,7 @@ impl Plot for Counters {
 }
 
 /// Looks at a cell twice, and answers what it found.
-pub fn look_twice(all: &Turnstile<Counters>, hand: &mut Hand<Counters>, cell: u32) -> (u64, u64)
+pub fn look_twice(all: &Row, hand: &mut RowHand, cell: u32) -> (u64, u64)
     requires own { hand.old.home ≡ all.now }
     requires cell { cell < length all.now.base.opening }
     ensures { hand.new ≡ looked_at (looked_at hand.old cell result.0) cell result.1 }
@@ -58,11 +65,7 @@ pub fn look_twice(all: &Turnstile<Counters>, hand: &mut Hand<Counters>, cell: u3
 }
 
 /// Tries the turn of a cell, and again where somebody has it.
-pub fn try_twice(
-    all: &Turnstile<Counters>,
-    hand: &mut Hand<Counters>,
-    cell: u32,
-) -> Result<Taken<Counter>, Busy>
+pub fn try_twice(all: &Row, hand: &mut RowHand, cell: u32) -> Result<Taken<Counter>, Busy>
     requires own { hand.old.home ≡ all.now }
     requires cell { cell < length all.now.base.opening }
     requires idle { hand.old.turns ≡ [] }
@@ -77,19 +80,10 @@ pub fn try_twice(
 }
 
 /// Adds 1 to the first counter, and answers the stamp. None where no stamp is left or it is full.
-pub fn raise_one<R: Wait>(
-    rt: &R,
-    all: &Turnstile<Counters>,
-    hand: &mut Hand<Counters>,
-    by: u32,
-) -> Option<u64>
-    requires own { hand.old.home ≡ all.now }
-    requires cells { 1 < length all.now.base.opening }
-    requires idle { hand.old.turns ≡ [] }
-    requires by { (hand.old.number ≡ by) × (0 < by) }
-    ensures own { hand.new.home ≡ hand.old.home }
-    ensures idle { hand.new.turns ≡ [] }
-    ensures by { hand.new.number ≡ hand.old.number }
+pub fn raise_one<R: Wait>(rt: &R, all: &Row, hand: &mut RowHand) -> Option<u64>
+    requires ready { IsReady hand.old all.now }
+    ensures ready { IsReady hand.new all.now }
+    ensures number { hand.new.number ≡ hand.old.number }
 {
     if hand.left() == 0 {
         return None;
@@ -100,7 +94,7 @@ pub fn raise_one<R: Wait>(
         return None;
     }
     let entry = Raise {
-        by,
+        by: hand.number(),
         first: 0,
         second: None,
     };
@@ -111,19 +105,10 @@ pub fn raise_one<R: Wait>(
 }
 
 /// Adds 1 to both counters, and answers the stamp. None where no stamp is left or one is full.
-pub fn raise_two<R: Wait>(
-    rt: &R,
-    all: &Turnstile<Counters>,
-    hand: &mut Hand<Counters>,
-    by: u32,
-) -> Option<u64>
-    requires own { hand.old.home ≡ all.now }
-    requires cells { 1 < length all.now.base.opening }
-    requires idle { hand.old.turns ≡ [] }
-    requires by { (hand.old.number ≡ by) × (0 < by) }
-    ensures own { hand.new.home ≡ hand.old.home }
-    ensures idle { hand.new.turns ≡ [] }
-    ensures by { hand.new.number ≡ hand.old.number }
+pub fn raise_two<R: Wait>(rt: &R, all: &Row, hand: &mut RowHand) -> Option<u64>
+    requires ready { IsReady hand.old all.now }
+    ensures ready { IsReady hand.new all.now }
+    ensures number { hand.new.number ≡ hand.old.number }
 {
     if hand.left() == 0 {
         return None;
@@ -142,7 +127,7 @@ pub fn raise_two<R: Wait>(
         return None;
     }
     let entry = Raise {
-        by,
+        by: hand.number(),
         first: 0,
         second: Some(1),
     };
@@ -157,24 +142,20 @@ pub fn raise_two<R: Wait>(
 /// Makes 1,000 entries, every second one on both counters, and keeps their stamps.
 pub fn raise_many<R: Wait>(
     rt: &R,
-    all: &Turnstile<Counters>,
-    hand: Hand<Counters>,
-    by: u32,
+    all: &Row,
+    hand: RowHand,
     stamps: Vec<u64>,
-) -> (Hand<Counters>, Vec<u64>)
-    requires own { hand.home ≡ all.now }
-    requires cells { 1 < length all.now.base.opening }
-    requires idle { hand.turns ≡ [] }
-    requires by { (hand.number ≡ by) × (0 < by) }
+) -> (RowHand, Vec<u64>)
+    requires ready { IsReady hand all.now }
     ensures { result.0.home ≡ hand.home }
 {
     let mut hand = hand;
     let mut stamps = stamps;
     for i in 0..1000u32 {
         let made = if i % 2 == 0 {
-            raise_one(rt, all, &mut hand, by)
+            raise_one(rt, all, &mut hand)
         } else {
-            raise_two(rt, all, &mut hand, by)
+            raise_two(rt, all, &mut hand)
         };
         if let Some(stamp) = made {
             let _ = stamps.push(stamp);

@@ -1,7 +1,7 @@
-ghost use Rattle.std.specs.Prelude.{◌≡◌, ◌<◌, [], ◌∷◌, length, IfSome, IfOk};
+ghost use Rattle.std.specs.Prelude.{◌≡◌, ◌<◌, ◌≤◌, ◌^◌, [], ◌∷◌, length, IfSome, IfOk};
 ghost use Rattle.eleos_turn.specs.Hands.{fresh, dealt};
 
-use crate::counters::{Counter, Counters, raise_many};
+use crate::counters::{Counter, Row, RowHand, raise_many};
 use crate::shelves::{Shelf, Shelves, lay};
 use eleos_turn::{CellWord, Closed, Hand, HandsRefused, Taken, Turnstile};
 use std::alloc::{AllocError, Global};
@@ -19,10 +19,7 @@ fn counters(alloc: Global, count: usize) -> Result<Vec<Counter>, AllocError> {
 }
 
 // The two hands that `make` gave.
-fn both_hands(
-    all: &Turnstile<Counters>,
-    hands: Vec<Hand<Counters>>,
-) -> Option<(Hand<Counters>, Hand<Counters>)>
+fn both_hands(all: &Row, hands: Vec<RowHand>) -> Option<(RowHand, RowHand)>
     requires { hands.items ≡ dealt all.now 0 2 }
     ensures { IfSome result (λ r. (r.0 ≡ fresh all.now 1) × (r.1 ≡ fresh all.now 2)) }
 {
@@ -37,26 +34,41 @@ fn both_hands(
     Some((one, two))
 }
 
-#[test]
-fn words_of_one_cell_by_hand(rt: HostRuntime) -> Result<(), Fail> {
-    let alloc = rt.alloc();
-    let cells = counters(alloc, 1)?;
-    assert_eq!(rt; cells.len(), 1);
-    let made = Turnstile::<Counters>::make(alloc, cells, 2, 10);
-    let Ok((all, hands)) = made else {
+// A row of so many counters at 0, with its two hands, each of which may stamp so often.
+fn row_with_two_hands<R: Abort>(
+    rt: &R,
+    alloc: Global,
+    count: usize,
+    stamps: u64,
+) -> Result<(Row, RowHand, RowHand), Fail>
+    requires count { count < 2 ^ 31 }
+    requires stamps { (0 < stamps) × (stamps ≤ 2 ^ 40) }
+    ensures count { IfOk result (λ r. length r.0.base.opening ≡ count) }
+    ensures one { IfOk result (λ r. r.1 ≡ fresh r.0 1) }
+    ensures two { IfOk result (λ r. r.2 ≡ fresh r.0 2) }
+{
+    let cells = counters(alloc, count)?;
+    assert_eq!(rt; cells.len(), count);
+    let Ok((all, hands)) = Row::make(alloc, cells, 2, stamps) else {
         return Err("memory".into());
     };
-    let Some((mut one, mut two)) = both_hands(&all, hands) else {
+    let Some((one, two)) = both_hands(&all, hands) else {
         return Err("hands".into());
     };
+    Ok((all, one, two))
+}
+
+#[test]
+fn words_of_one_cell_by_hand(rt: HostRuntime) -> Result<(), Fail> {
+    let (all, mut one, mut two) = row_with_two_hands(&rt, rt.alloc(), 1, 10)?;
     by_hand(&rt, &all, &mut one, &mut two)
 }
 
 fn by_hand<R: Wait + Abort>(
     rt: &R,
-    all: &Turnstile<Counters>,
-    one: &mut Hand<Counters>,
-    two: &mut Hand<Counters>,
+    all: &Row,
+    one: &mut RowHand,
+    two: &mut RowHand,
 ) -> Result<(), Fail>
     requires cells { 0 < length all.now.base.opening }
     requires hands { (one.old ≡ fresh all.now 1) × (two.old ≡ fresh all.now 2) }
@@ -87,15 +99,7 @@ fn by_hand<R: Wait + Abort>(
 #[test]
 fn two_threads_stamp_each_number_once(rt: HostRuntime) -> Result<(), Fail> {
     let alloc = rt.alloc();
-    let cells = counters(alloc, 2)?;
-    assert_eq!(rt; cells.len(), 2);
-    let made = Turnstile::<Counters>::make(alloc, cells, 2, 1000);
-    let Ok((all, hands)) = made else {
-        return Err("memory".into());
-    };
-    let Some((one, two)) = both_hands(&all, hands) else {
-        return Err("hands".into());
-    };
+    let (all, one, two) = row_with_two_hands(&rt, alloc, 2, 1000)?;
     let first = Vec::with_capacity(alloc, 1000)?;
     let second = Vec::with_capacity(alloc, 1000)?;
     let room = Vec::with_capacity(alloc, 2)?;
@@ -105,12 +109,12 @@ fn two_threads_stamp_each_number_once(rt: HostRuntime) -> Result<(), Fail> {
 fn raise_and_close<R: Threads + Wait + Abort + Sync>(
     rt: &R,
     alloc: Global,
-    all: Turnstile<Counters>,
-    one: Hand<Counters>,
-    two: Hand<Counters>,
+    all: Row,
+    one: RowHand,
+    two: RowHand,
     first: Vec<u64>,
     second: Vec<u64>,
-    room: Vec<Hand<Counters>>,
+    room: Vec<RowHand>,
 ) -> Result<(), Fail>
     requires cells { 1 < length all.base.opening }
     requires hands { (one ≡ fresh all 1) × (two ≡ fresh all 2) }
@@ -120,14 +124,14 @@ fn raise_and_close<R: Threads + Wait + Abort + Sync>(
     let shared = &all;
     let ((one, first), (two, second)) = join(
         rt,
-        || -> (Hand<Counters>, Vec<u64>)
+        || -> (RowHand, Vec<u64>)
             requires { (one ≡ fresh shared.now 1) × (1 < length shared.now.base.opening) }
             ensures { result.0.home ≡ shared.entry.now }
-        { raise_many(rt, shared, one, 1, first) },
-        || -> (Hand<Counters>, Vec<u64>)
+        { raise_many(rt, shared, one, first) },
+        || -> (RowHand, Vec<u64>)
             requires { (two ≡ fresh shared.now 2) × (1 < length shared.now.base.opening) }
             ensures { result.0.home ≡ shared.entry.now }
-        { raise_many(rt, shared, two, 2, second) },
+        { raise_many(rt, shared, two, second) },
     );
     let mut seen = vec![in alloc; 0u8; 2000]?;
     for stamp in first.iter().chain(second.iter()) {
@@ -156,15 +160,7 @@ fn raise_and_close<R: Threads + Wait + Abort + Sync>(
 #[test]
 fn a_hand_rests_in_a_cell_of_another_turnstile(rt: HostRuntime) -> Result<(), Fail> {
     let alloc = rt.alloc();
-    let cells = counters(alloc, 1)?;
-    assert_eq!(rt; cells.len(), 1);
-    let made = Turnstile::<Counters>::make(alloc, cells, 2, 10);
-    let Ok((all, hands)) = made else {
-        return Err("memory".into());
-    };
-    let Some((one, two)) = both_hands(&all, hands) else {
-        return Err("hands".into());
-    };
+    let (all, one, two) = row_with_two_hands(&rt, alloc, 1, 10)?;
     let mut cells = Vec::with_capacity(alloc, 1)?;
     cells.push(Shelf {
         count: 0,
@@ -196,8 +192,8 @@ fn swap_hands<R: Wait + Abort>(
     rt: &R,
     shelves: &Turnstile<Shelves>,
     porter: &mut Hand<Shelves>,
-    one: Hand<Counters>,
-    two: Hand<Counters>,
+    one: RowHand,
+    two: RowHand,
 ) -> Result<(), Fail>
     requires cells { 0 < length shelves.now.base.opening }
     requires porter { porter.old ≡ fresh shelves.now 1 }

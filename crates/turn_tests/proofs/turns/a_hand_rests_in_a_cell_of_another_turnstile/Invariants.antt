@@ -2,6 +2,3 @@ use Rattle.turn_tests.proofs.turns.a_hand_rests_in_a_cell_of_another_turnstile.G
 
 abbrev pub ghost-make : goal.ghost-make
 ghost-make g a = tt
-
-abbrev pub ghost-make-2 : goal.ghost-make-2
-ghost-make-2 g a = tt

@@ -2,7 +2,7 @@ use Rattle.std.proofs.Common.{arith, ◌≡◌, ◌∷◌, ◌%◌, ◌<◌, ℕ
 use Rattle.eleos_base.specs.Ties.{Has}
 use Rattle.atomic_table.specs.Table.{rest}
 use Rattle.eleos_turn.specs.Rule.{base_of}
-use Rattle.eleos_turn.proofs.Steps.{turn_taken, slot_laid}
+use Rattle.eleos_turn.proofs.Steps.{turn_taken, take_ended}
 use Rattle.eleos_turn.proofs.Numbers.{even_of}
 use Rattle.eleos_turn.proofs.Calls.{opening_length, topmost, exchanged, had, took}
 use Rattle.eleos_turn.proofs.table.CellTable.attempt.Goals.{then-touch, else-touch}
@@ -22,7 +22,7 @@ load-requires g c = let sized = c.args.self.now.sized in let t = c.fetch_or-word
     let now = exchanged g.P.Plot.terms c.args.seat.now.me _ _ _ _ _ _ c.requires.rests.0 t.2 (c.exchange-slot.ensures.3 ∙ (λ i. (c.fetch_or-word.new.seat.me.0, (c.args.cell, c.of.ensures i) ∷ rest c.fetch_or-word.new.seat.me.1))) in (
       c.exchange-slot.ensures.0 ∙ (c.fetch_or-word.ensures.0 ∙ c.requires.own),
       omega arith,
-      slot_laid g.P.Plot.terms (base_of g.P.Plot.terms c.args.self.now.table.shared.key) _ _ _ _ c.args.cell
+      take_ended g.P.Plot.terms (base_of g.P.Plot.terms c.args.self.now.table.shared.key) _ _ _ _ c.args.cell
           (ap (λ m. m.1) now) (ap (λ m. m.0.moving) now) (subst (Has c.args.cell) (sym (ap (λ m. m.0.held) now)) (inl refl)),
     )
 

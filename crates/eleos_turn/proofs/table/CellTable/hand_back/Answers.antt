@@ -4,13 +4,13 @@ use Rattle.eleos_base.specs.Histories.{made}
 use Rattle.atomic_table.specs.Table.{rest}
 use Rattle.eleos_turn.specs.Rule.{base_of}
 use Rattle.eleos_turn.specs.Views.{freed}
-use Rattle.eleos_turn.proofs.Steps.{slot_fetched, turn_given}
+use Rattle.eleos_turn.proofs.Steps.{give_begun, turn_given}
 use Rattle.eleos_turn.proofs.Calls.{topmost, exchanged, had}
 use Rattle.eleos_turn.proofs.table.CellTable.hand_back.Goals as goal
 
 pub load-requires : goal.load-requires
 load-requires g c = let sized = c.args.self.now.sized in let within = c.requires.cell in
-    (c.requires.own, omega arith, slot_fetched g.P.Plot.terms (base_of g.P.Plot.terms c.args.self.now.table.shared.key) _ _ _ c.args.cell c.requires.rests.1 c.requires.held)
+    (c.requires.own, omega arith, give_begun g.P.Plot.terms (base_of g.P.Plot.terms c.args.self.now.table.shared.key) _ _ _ c.args.cell c.requires.rests.1 c.requires.held)
 
 pub exchange-empty-requires : goal.exchange-empty-requires
 exchange-empty-requires g c = (c.load.ensures.0 ∙ c.requires.own, (None, topmost g.P.Plot.terms c.args.seat.now.me _ _ c.args.cell None (c.load.ensures.2 c.args.cell refl)))

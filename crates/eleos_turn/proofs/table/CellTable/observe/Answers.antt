@@ -1,12 +1,12 @@
 use Rattle.std.proofs.Common.{arith, sym, ap, ◌∙◌, subst, ◌<◌, ℕ}
 use Rattle.eleos_turn.specs.Rule.{base_of}
-use Rattle.eleos_turn.proofs.Seats.{harks}
+use Rattle.eleos_turn.proofs.Seats.{observes}
 use Rattle.eleos_turn.proofs.Steps.{heard}
-use Rattle.eleos_turn.proofs.table.CellTable.hark.Goals as goal
+use Rattle.eleos_turn.proofs.table.CellTable.observe.Goals as goal
 
 pub join_seat-requires : goal.join_seat-requires
 join_seat-requires g c = let sized = c.args.self.now.sized in
-    (c.requires.own.0, c.requires.own.1, c.requires.idle.0, omega arith, harks g.P.Plot.terms (base_of g.P.Plot.terms c.args.self.now.table.shared.key) _ _ _ _ c.requires.idle.1 c.requires.idle.2)
+    (c.requires.own.0, c.requires.own.1, c.requires.idle.0, omega arith, observes g.P.Plot.terms (base_of g.P.Plot.terms c.args.self.now.table.shared.key) _ _ _ _ c.requires.idle.1 c.requires.idle.2)
 
 pub load-requires : goal.load-requires
 load-requires g c = let sized = c.args.self.now.sized in let alive = c.requires.idle.3 in

@@ -2,7 +2,7 @@ use Rattle.std.proofs.Common.{arith, sym, ap, ◌∙◌, subst, ◌<◌, ℕ}
 use Rattle.eleos_turn.specs.Rule.{base_of}
 use Rattle.eleos_turn.proofs.Seats.{joins}
 use Rattle.eleos_turn.proofs.Steps.{heard}
-use Rattle.eleos_turn.proofs.table.CellTable.hear.Goals as goal
+use Rattle.eleos_turn.proofs.table.CellTable.absorb.Goals as goal
 
 pub join_seat-requires : goal.join_seat-requires
 join_seat-requires g c = let sized = c.args.self.now.sized in
