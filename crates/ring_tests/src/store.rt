@@ -9,62 +9,45 @@ use std::process::Abort;
 use std::sync::Wait;
 use std::test::*;
 
-// A call with its bytes, what it comes to, and then the room for its reply, zeros before.
-struct Row<'a> {
-    call: HostCall,
-    text: &'a [u8],
-    called: Called,
-    room: &'a [u8],
-}
-
 const KEY: &[u8] = b"abcdefgh";
 
-const ROWS: [Row<'static>; 7] = [
-    Row {
-        call: HostCall::Put,
-        text: b"abcdefghAB",
-        called: Called::Reply { len: 0, status: 0 },
-        room: b"",
-    },
-    Row {
-        call: HostCall::Get,
-        text: KEY,
-        called: Called::Reply { len: 2, status: 0 },
-        room: b"AB",
-    },
-    Row {
-        call: HostCall::Get,
-        text: KEY,
-        called: Called::Refused {
+/// A call with its bytes, what it comes to, and then the room for its reply, zeros before.
+const ROWS: [(HostCall, &[u8], Called, &[u8]); 7] = [
+    (
+        HostCall::Put,
+        b"abcdefghAB",
+        Called::Reply { len: 0, status: 0 },
+        b"",
+    ),
+    (
+        HostCall::Get,
+        KEY,
+        Called::Reply { len: 2, status: 0 },
+        b"AB",
+    ),
+    (
+        HostCall::Get,
+        KEY,
+        Called::Refused {
             why: RingWhy::TooLong,
             seen: 2,
         },
-        room: b"\0",
-    },
-    Row {
-        call: HostCall::Cut,
-        text: KEY,
-        called: Called::Reply { len: 0, status: 0 },
-        room: b"",
-    },
-    Row {
-        call: HostCall::Cut,
-        text: KEY,
-        called: Called::Reply { len: 0, status: 1 },
-        room: b"",
-    },
-    Row {
-        call: HostCall::Put,
-        text: b"a",
-        called: Called::Reply { len: 0, status: 3 },
-        room: b"",
-    },
-    Row {
-        call: HostCall::Clock,
-        text: b"",
-        called: Called::Reply { len: 8, status: 0 },
-        room: b"\0\0\0\0\0\0\0\x06",
-    },
+        b"\0",
+    ),
+    (HostCall::Cut, KEY, Called::Reply { len: 0, status: 0 }, b""),
+    (HostCall::Cut, KEY, Called::Reply { len: 0, status: 1 }, b""),
+    (
+        HostCall::Put,
+        b"a",
+        Called::Reply { len: 0, status: 3 },
+        b"",
+    ),
+    (
+        HostCall::Clock,
+        b"",
+        Called::Reply { len: 8, status: 0 },
+        b"\0\0\0\0\0\0\0\x06",
+    ),
 ];
 
 #[test]
@@ -91,21 +74,21 @@ fn make_all<R: Wait + Abort>(
     let mut bell = jobs.bell(rt, two.0);
     let mut aide = jobs.aide(rt, two.1, words.port(8));
     let mut ring = Ring::make(7);
-    for row in ROWS.iter() {
+    for (call, text, came, reply) in ROWS {
         let mut bytes = [0; 8];
-        let room = &mut bytes[..row.room.len().min(8)];
-        let text = &row.text[..row.text.len().min(10)];
+        let room = &mut bytes[..reply.len().min(8)];
+        let text = &text[..text.len().min(10)];
         let called = ring.call(
             rt,
             &mut port,
             &mut bell,
             &mut aide,
-            row.call.number(),
+            call.number(),
             text,
             room,
         );
-        assert_eq!(rt; called, row.called);
-        assert_eq!(rt; &*room, row.room);
+        assert_eq!(rt; called, came);
+        assert_eq!(rt; &*room, reply);
     }
     Ok(())
 }
