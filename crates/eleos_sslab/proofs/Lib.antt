@@ -6,3 +6,4 @@ pub mod NewBlocks
 pub mod Calling
 pub mod Putting
 pub mod Getting
+pub mod Spending

@@ -43,7 +43,8 @@ pub record IsInSlot (size : SlotSize) (slot len : ℕ) : Type 0 where
   pub in_block : slot < slot_count size
   pub in_slot : len ≤ slot_bytes size
 
--- each block with an object is a private block of its own, each object lies within its slot, and each block has 32 lengths
+-- each block with an object is a private block of its own, each object lies within its slot, and
+-- each block has 32 lengths
 pub record IsSlab (p : Private) (blocks : List SlabBlock) : Type 0 where
   pub homes : (i : ℕ) → HasObject (block_at blocks i) → IsHome p (block_at blocks i).at
   pub apart : (i j : ℕ) → HasObject (block_at blocks i) → HasObject (block_at blocks j) → i ≢ j → (block_at blocks i).at.at ≢ (block_at blocks j).at.at

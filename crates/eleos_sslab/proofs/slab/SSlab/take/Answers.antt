@@ -8,6 +8,7 @@ use Rattle.eleos_sslab.specs.Calls.{FreesEmpty}
 use Rattle.eleos_sslab.specs.Slabs.{IsSlab, KeepsOthers, block_at, len_of}
 use Rattle.eleos_sslab.proofs.Calling.{gone_is, start_of, taken_others, taken_slab}
 use Rattle.eleos_sslab.proofs.Lengths.{used_within}
+use Rattle.eleos_sslab.proofs.Spending.{take_spent}
 use Rattle.eleos_sslab.proofs.slab.SSlab.take.Goals as goal
 
 pub set_len-requires-clause-within : goal.set_len-requires-clause-within
@@ -33,3 +34,6 @@ pub returns-clause-slab : goal.returns-clause-slab
 returns-clause-slab g c = let m = g.M.SubMemory.state c.args.mem.now in let m' = g.M.SubMemory.state c.free_empty.new.mem in
     subst (λ (z : List SlabBlock). IsSlab (owned m') z) (sym c.set_len.ensures)
     (taken_slab m c.args.self.now c.args.id c.requires.slab c.requires.held m' (subst (λ (z : List SlabBlock). FreesEmpty m z c.args.id.block m') c.set_len.ensures c.free_empty.ensures))
+
+pub returns-clause-spent : goal.returns-clause-spent
+returns-clause-spent g c = take_spent (g.M.SubMemory.state c.args.mem.now) (g.M.SubMemory.state c.free_empty.new.mem) c.set_len.new.self c.args.id.block c.free_empty.ensures
