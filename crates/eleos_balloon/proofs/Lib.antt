@@ -1,0 +1,12 @@
+pub mod Clocks
+pub mod Moving
+pub mod Leaving
+pub mod Held
+pub mod PoolTurns
+pub mod Releasing
+pub mod Finding
+pub mod Surveying
+pub mod Ending
+pub mod Gathering
+pub mod Going
+pub mod Whole
