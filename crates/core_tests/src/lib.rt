@@ -5,3 +5,10 @@
 mod plots;
 #[cfg(test)]
 mod searches;
+
+#[cfg(test)]
+use eleos_base::Addr;
+
+/// The first byte of the first enclave.
+#[cfg(test)]
+const HERE: Addr = Addr { enclave: 0, at: 0 };

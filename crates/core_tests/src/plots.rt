@@ -1,33 +1,12 @@
-use eleos_base::{Addr, EnclavePlan, List, Looked, Plan, Plot, Tied};
+use crate::HERE;
+use eleos_base::{Looked, Plot, Tied};
 use eleos_plot::{CorePlot, Draft, EventRef, OpRef, ReplyRef, WantedRef};
-use std::alloc::{AllocError, Global};
 use std::test::*;
-
-const HERE: Addr = Addr { enclave: 0, at: 0 };
-
-// A machine of one page and one frame, with one caller.
-fn small(alloc: Global) -> Result<Plan, AllocError> {
-    let enclaves = Vec::from_array(
-        alloc,
-        [EnclavePlan {
-            pages: 1,
-            frames: 1,
-        }],
-    )?;
-    Ok(Plan {
-        enclaves: List::of(enclaves),
-        spare: 0,
-        callers: List::of(Vec::from_array(alloc, [0u16])?),
-        wear: 1,
-        blocks: List::of(Vec::new(alloc)),
-    })
-}
 
 #[test]
 fn which_entries_tie(rt: HostRuntime) -> Result<(), Fail> {
     let alloc = rt.alloc();
-    let plan = small(alloc)?;
-    let Ok(mut draft) = Draft::make(alloc, &plan) else {
+    let Ok(mut draft) = Draft::make(alloc) else {
         return Err("memory".into());
     };
     draft.set(1, EventRef::Link { at: HERE }, ReplyRef::Done);
@@ -45,8 +24,7 @@ fn which_entries_tie(rt: HostRuntime) -> Result<(), Fail> {
 #[test]
 fn is_there_room_for_the_largest_entries(rt: HostRuntime) -> Result<(), Fail> {
     let alloc = rt.alloc();
-    let plan = small(alloc)?;
-    let Ok(mut draft) = Draft::make(alloc, &plan) else {
+    let Ok(mut draft) = Draft::make(alloc) else {
         return Err("memory".into());
     };
     let bytes = [7; 8192];

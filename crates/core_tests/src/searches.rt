@@ -1,6 +1,5 @@
 // Events of the core that no command of the program makes: the end of a search among frames, and
-// what is
-// refused for want of a frame or since a block did not pass.
+// what is refused for want of a frame or since a block did not pass.
 ghost use Rattle.std.specs.Prelude.{◌≡◌, [], IfOk};
 ghost use Rattle.eleos_base.specs.Plans.{IsCaller, IsGood};
 ghost use Rattle.eleos_core.specs.Accesses.{AreBlocks};
@@ -9,17 +8,15 @@ ghost use Rattle.eleos_core.specs.Applying.{Shows};
 ghost use Rattle.eleos_core.specs.Needs.{needed};
 ghost use Rattle.eleos_core.specs.Seals.{Seals};
 
-use eleos_base::{Addr, BlockPlan, EnclavePlan, List, Looked, Op, Plan, Reply};
+use crate::HERE;
+use eleos_base::{BlockPlan, EnclavePlan, List, Looked, Op, Plan, Reply};
 use eleos_core::{ApplyRefused, Block, Core, Event, Goal, Wanted};
 use eleos_gcm::Gcm;
 use std::alloc::{AllocError, Global};
 use std::test::*;
 
-const HERE: Addr = Addr { enclave: 0, at: 0 };
-
 // One enclave of one page, which has the frames 0 and 1, with frame 2 in the pool, and one caller,
-// who has
-// the first sub-page.
+// who has the first sub-page.
 fn plan_of_three_frames(alloc: Global) -> Result<Plan, AllocError>
     ensures good { IfOk result (λ plan. IsGood plan) }
     ensures caller { IfOk result (λ plan. IsCaller plan 1) }

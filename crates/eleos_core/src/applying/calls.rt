@@ -1,16 +1,14 @@
 // Calls on memory, applied.
-ghost use Rattle.std.specs.Prelude.{◌≡◌, length, All, Err, IfOk, OnErr};
 ghost use Rattle.eleos_base.specs.Plans.{IsCaller};
 ghost use Rattle.eleos_core.specs.Accesses.{AreBlocks};
-ghost use Rattle.eleos_core.specs.Applying.{AlwaysApplies, AlwaysIllegal};
-ghost use Rattle.eleos_core.specs.Cells.{sub_size};
 ghost use Rattle.eleos_core.specs.Needs.{needed};
+ghost use Rattle.eleos_core.specs.Outcomes.{Outcome};
 ghost use Rattle.eleos_core.specs.Seals.{seals_by};
 
 use crate::accesses::only_reply;
 use crate::event::{Block, Event};
 use crate::machine::{ApplyRefused, Core, Effect};
-use eleos_base::{Op, Part, Sealer};
+use eleos_base::{Op, Sealer};
 use std::alloc::Global;
 
 impl Core {
@@ -25,15 +23,8 @@ impl Core {
     ) -> Result<Effect, ApplyRefused>
         requires within { IsCaller self.old.plan who }
         requires blocks { AreBlocks (needed self.old who (Event.Op op.now)) blocks.now }
-        ensures applied { IfOk result (λ effect.
-            AlwaysApplies (seals_by (S.key sealer.now)) self.old who (Event.Op op.now) blocks.now
-            effect.reply effect.puts self.new) }
-        ensures blocks { IfOk result (λ effect.
-            All (λ put. length put.block ≡ sub_size) effect.puts) }
-        ensures illegal { (part : Part) → result ≡ Err (ApplyRefused.Illegal part)
-            → AlwaysIllegal (seals_by (S.key sealer.now)) self.old who (Event.Op op.now)
-            blocks.now part }
-        ensures err { OnErr result (self.new ≡ self.old) }
+        ensures { Outcome (seals_by (S.key sealer.now)) self.old who (Event.Op op.now) blocks.now
+            result self.new }
     {
         match op {
             Op::Alloc { bytes } => {

@@ -1,13 +1,10 @@
 // Pages and frames: a fill, an evict or a move that is legal is done.
-ghost use Rattle.std.specs.Prelude.{◌≡◌, ◌<◌, ℕ, [], length, All, Err, IfOk, OnErr};
-ghost use Rattle.eleos_base.specs.declared.memory.Part.{Part as Offence};
+ghost use Rattle.std.specs.Prelude.{◌<◌, ℕ, []};
+ghost use Rattle.eleos_base.specs.Places.{all_frames, all_pages};
 ghost use Rattle.eleos_core.specs.Accesses.{AreBlocks};
-ghost use Rattle.eleos_core.specs.Applying.{AlwaysApplies, AlwaysIllegal};
-ghost use Rattle.eleos_core.specs.Cells.{sub_size};
 ghost use Rattle.eleos_core.specs.Fills.{page_in, sealed_places};
 ghost use Rattle.eleos_core.specs.Legal.{IsActor, IsOwner, OneIsPool};
-ghost use Rattle.eleos_base.specs.Places.{all_frames, all_pages};
-ghost use Rattle.eleos_core.specs.Memory.{MayWantMemory};
+ghost use Rattle.eleos_core.specs.Outcomes.{Outcome};
 ghost use Rattle.eleos_core.specs.Seals.{Seals, seals_by};
 
 use crate::accesses::only_reply;
@@ -30,17 +27,9 @@ impl Core {
         requires page { page < all_pages self.old.plan }
         requires frame { frame < all_frames self.old.plan }
         requires blocks { AreBlocks (sealed_places page (page_in self.old page)) blocks.now }
-        ensures applied { IfOk result (λ effect. (who : ℕ) → IsActor self.old.plan who
-            → AlwaysApplies (seals_by (S.key sealer.now)) self.old who (Event.Fill page frame)
-            blocks.now effect.reply effect.puts self.new) }
-        ensures blocks { IfOk result (λ effect.
-            All (λ put. length put.block ≡ sub_size) effect.puts) }
-        ensures illegal { (who : ℕ) (part : Offence) → result ≡ Err (ApplyRefused.Illegal part)
-            → AlwaysIllegal (seals_by (S.key sealer.now)) self.old who (Event.Fill page frame)
-            blocks.now part }
-        ensures err { OnErr result (self.new ≡ self.old) }
-        ensures memory { (who : ℕ) → result ≡ Err ApplyRefused.NoMemory
-            → MayWantMemory self.old who (Event.Fill page frame) }
+        ensures { (who : ℕ) → IsActor self.old.plan who
+            → Outcome (seals_by (S.key sealer.now)) self.old who (Event.Fill page frame)
+            blocks.now result self.new }
     {
         if let Some(part) = self.fill_offence(page, frame) {
             return Err(ApplyRefused::Illegal { part });
@@ -60,17 +49,9 @@ impl Core {
     ) -> Result<Effect, ApplyRefused>
         requires page { page < all_pages self.old.plan }
         requires frame { frame < all_frames self.old.plan }
-        ensures applied { IfOk result (λ effect. (who : ℕ) → IsActor self.old.plan who
-            → AlwaysApplies (seals_by (S.key sealer.now)) self.old who (Event.Evict page frame)
-            [] effect.reply effect.puts self.new) }
-        ensures blocks { IfOk result (λ effect.
-            All (λ put. length put.block ≡ sub_size) effect.puts) }
-        ensures illegal { (who : ℕ) (part : Offence) → result ≡ Err (ApplyRefused.Illegal part)
-            → AlwaysIllegal (seals_by (S.key sealer.now)) self.old who (Event.Evict page frame)
-            [] part }
-        ensures err { OnErr result (self.new ≡ self.old) }
-        ensures memory { (who : ℕ) → result ≡ Err ApplyRefused.NoMemory
-            → MayWantMemory self.old who (Event.Evict page frame) }
+        ensures { (who : ℕ) → IsActor self.old.plan who
+            → Outcome (seals_by (S.key sealer.now)) self.old who (Event.Evict page frame) []
+            result self.new }
     {
         if let Some(part) = self.evict_offence(page, frame) {
             return Err(ApplyRefused::Illegal { part });
@@ -94,17 +75,8 @@ impl Core {
         requires from { IsOwner self.old.plan from }
         requires to { IsOwner self.old.plan to }
         requires one_is_pool { OneIsPool from to }
-        ensures applied { IfOk result (λ effect. (x : Seals) (who : ℕ) → IsActor self.old.plan who
-            → AlwaysApplies x self.old who (Event.Move frame from to)
-            [] effect.reply effect.puts self.new) }
-        ensures blocks { IfOk result (λ effect.
-            All (λ put. length put.block ≡ sub_size) effect.puts) }
-        ensures illegal { (x : Seals) (who : ℕ) (part : Offence)
-            → result ≡ Err (ApplyRefused.Illegal part)
-            → AlwaysIllegal x self.old who (Event.Move frame from to) [] part }
-        ensures err { OnErr result (self.new ≡ self.old) }
-        ensures memory { (who : ℕ) → result ≡ Err ApplyRefused.NoMemory
-            → MayWantMemory self.old who (Event.Move frame from to) }
+        ensures { (x : Seals) (who : ℕ) → IsActor self.old.plan who
+            → Outcome x self.old who (Event.Move frame from to) [] result self.new }
     {
         if let Some(part) = self.move_offence(frame, from) {
             return Err(ApplyRefused::Illegal { part });

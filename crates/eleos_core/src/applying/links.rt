@@ -1,16 +1,14 @@
 // Links on pages, applied.
-ghost use Rattle.std.specs.Prelude.{◌≡◌, ◌<◌, [], length, All, Err, IfOk, OnErr};
-ghost use Rattle.eleos_base.specs.Plans.{IsCaller};
-ghost use Rattle.eleos_core.specs.Applying.{AlwaysApplies, AlwaysIllegal};
-ghost use Rattle.eleos_core.specs.Cells.{sub_size};
+ghost use Rattle.std.specs.Prelude.{◌<◌, []};
 ghost use Rattle.eleos_base.specs.Places.{all_pages};
-ghost use Rattle.eleos_core.specs.Memory.{MayWantMemory};
+ghost use Rattle.eleos_base.specs.Plans.{IsCaller};
+ghost use Rattle.eleos_core.specs.Outcomes.{Outcome};
 ghost use Rattle.eleos_core.specs.Seals.{Seals};
 
 use crate::accesses::only_reply;
 use crate::event::Event;
 use crate::machine::{ApplyRefused, Core, Effect};
-use eleos_base::{Addr, Part};
+use eleos_base::Addr;
 use std::alloc::Global;
 
 impl Core {
@@ -22,15 +20,8 @@ impl Core {
         at: Addr,
     ) -> Result<Effect, ApplyRefused>
         requires within { IsCaller self.old.plan who }
-        ensures applied { (x : Seals) → IfOk result (λ effect.
-            AlwaysApplies x self.old who (Event.Link at) [] effect.reply effect.puts self.new) }
-        ensures blocks { IfOk result (λ effect.
-            All (λ put. length put.block ≡ sub_size) effect.puts) }
-        ensures illegal { (x : Seals) (part : Part) → result ≡ Err (ApplyRefused.Illegal part)
-            → AlwaysIllegal x self.old who (Event.Link at) [] part }
-        ensures err { OnErr result (self.new ≡ self.old) }
-        ensures memory { result ≡ Err ApplyRefused.NoMemory
-            → MayWantMemory self.old who (Event.Link at) }
+        ensures { (x : Seals)
+            → Outcome x self.old who (Event.Link at) [] result self.new }
     {
         if let Some(part) = self.link_offence(who, at) {
             return Err(ApplyRefused::Illegal { part });
@@ -48,16 +39,8 @@ impl Core {
     ) -> Result<Effect, ApplyRefused>
         requires caller { IsCaller self.old.plan who }
         requires page { page < all_pages self.old.plan }
-        ensures applied { (x : Seals) → IfOk result (λ effect.
-            AlwaysApplies x self.old who (Event.Unlink page) [] effect.reply effect.puts
-            self.new) }
-        ensures blocks { IfOk result (λ effect.
-            All (λ put. length put.block ≡ sub_size) effect.puts) }
-        ensures illegal { (x : Seals) (part : Part) → result ≡ Err (ApplyRefused.Illegal part)
-            → AlwaysIllegal x self.old who (Event.Unlink page) [] part }
-        ensures err { OnErr result (self.new ≡ self.old) }
-        ensures memory { result ≡ Err ApplyRefused.NoMemory
-            → MayWantMemory self.old who (Event.Unlink page) }
+        ensures { (x : Seals)
+            → Outcome x self.old who (Event.Unlink page) [] result self.new }
     {
         if let Some(part) = self.unlink_offence(who, page) {
             return Err(ApplyRefused::Illegal { part });

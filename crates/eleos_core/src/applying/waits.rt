@@ -1,13 +1,10 @@
 // What waits for a frame or a block, and the end of a search: it is answered where that is legal.
-ghost use Rattle.std.specs.Prelude.{◌≡◌, ◌<◌, ℕ, length, [], All, Err, IfOk};
-ghost use Rattle.eleos_base.specs.declared.memory.Part.{Part as Offence};
+ghost use Rattle.std.specs.Prelude.{◌<◌, ℕ, length, []};
 ghost use Rattle.eleos_base.specs.Plans.{IsCaller};
 ghost use Rattle.eleos_core.specs.Accesses.{AreBlocks};
-ghost use Rattle.eleos_core.specs.Applying.{AlwaysApplies, AlwaysIllegal};
-ghost use Rattle.eleos_core.specs.Cells.{sub_size};
 ghost use Rattle.eleos_core.specs.Legal.{IsActor};
+ghost use Rattle.eleos_core.specs.Outcomes.{Outcome};
 ghost use Rattle.eleos_core.specs.Quiet.{wanted_places};
-ghost use Rattle.eleos_core.specs.Memory.{MayWantMemory};
 ghost use Rattle.eleos_core.specs.Seals.{Seals, seals_by};
 
 use crate::accesses::only_reply;
@@ -26,15 +23,8 @@ impl Core {
         sweep: &[Looked],
     ) -> Result<Effect, ApplyRefused>
         requires { IsCaller self.now.plan who }
-        ensures applied { IfOk result (λ effect. (x : Seals)
-            → AlwaysApplies x self.now who (Event.Starved wanted.now sweep.now)
-            [] effect.reply effect.puts self.now) }
-        ensures blocks { IfOk result (λ effect.
-            All (λ put. length put.block ≡ sub_size) effect.puts) }
-        ensures illegal { (x : Seals) (part : Offence) → result ≡ Err (ApplyRefused.Illegal part)
-            → AlwaysIllegal x self.now who (Event.Starved wanted.now sweep.now) [] part }
-        ensures memory { result ≡ Err ApplyRefused.NoMemory
-            → MayWantMemory self.now who (Event.Starved wanted.now sweep.now) }
+        ensures { (x : Seals)
+            → Outcome x self.now who (Event.Starved wanted.now sweep.now) [] result self.now }
     {
         if let Some(part) = self.starved_offence(who, wanted, sweep) {
             return Err(ApplyRefused::Illegal { part });
@@ -55,16 +45,8 @@ impl Core {
     ) -> Result<Effect, ApplyRefused>
         requires caller { IsCaller self.now.plan who }
         requires blocks { AreBlocks (wanted_places self.now wanted.now) blocks.now }
-        ensures applied { IfOk result (λ effect.
-            AlwaysApplies (seals_by (S.key sealer.now)) self.now who (Event.Spoiled wanted.now)
-            blocks.now effect.reply effect.puts self.now) }
-        ensures blocks { IfOk result (λ effect.
-            All (λ put. length put.block ≡ sub_size) effect.puts) }
-        ensures illegal { (part : Offence) → result ≡ Err (ApplyRefused.Illegal part)
-            → AlwaysIllegal (seals_by (S.key sealer.now)) self.now who (Event.Spoiled wanted.now)
-            blocks.now part }
-        ensures memory { result ≡ Err ApplyRefused.NoMemory
-            → MayWantMemory self.now who (Event.Spoiled wanted.now) }
+        ensures { Outcome (seals_by (S.key sealer.now)) self.now who (Event.Spoiled wanted.now)
+            blocks.now result self.now }
     {
         if let Some(part) = self.waiting_offence(who, wanted) {
             return Err(ApplyRefused::Illegal { part });
@@ -87,16 +69,8 @@ impl Core {
         sweep: &[Looked],
     ) -> Result<Effect, ApplyRefused>
         requires { enclave < length self.now.plan.enclaves }
-        ensures applied { IfOk result (λ effect. (x : Seals) (who : ℕ) → IsActor self.now.plan who
-            → AlwaysApplies x self.now who (Event.Survey enclave goal sweep.now)
-            [] effect.reply effect.puts self.now) }
-        ensures blocks { IfOk result (λ effect.
-            All (λ put. length put.block ≡ sub_size) effect.puts) }
-        ensures illegal { (x : Seals) (who : ℕ) (part : Offence)
-            → result ≡ Err (ApplyRefused.Illegal part)
-            → AlwaysIllegal x self.now who (Event.Survey enclave goal sweep.now) [] part }
-        ensures memory { (who : ℕ) → result ≡ Err ApplyRefused.NoMemory
-            → MayWantMemory self.now who (Event.Survey enclave goal sweep.now) }
+        ensures { (x : Seals) (who : ℕ) → IsActor self.now.plan who
+            → Outcome x self.now who (Event.Survey enclave goal sweep.now) [] result self.now }
     {
         match self.survey(enclave, goal, sweep) {
             Some(reply) => Ok(only_reply(alloc, reply)),

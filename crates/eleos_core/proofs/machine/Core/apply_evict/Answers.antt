@@ -1,23 +1,23 @@
 use Rattle.std.proofs.Common.{[]}
+use Rattle.eleos_base.specs.declared.memory.Reply.TheVariants.{Done}
 use Rattle.eleos_core.specs.declared.event.Event.TheVariants.{Evict}
 use Rattle.eleos_core.specs.Seals.{Seals, seals_by}
 use Rattle.eleos_core.proofs.FrameEvents.{evict_applied, evict_illegal}
-use Rattle.eleos_core.proofs.Effects.{no_offence, refused}
+use Rattle.eleos_core.proofs.Effects.{came, refused, wanting}
 use Rattle.eleos_core.proofs.machine.Core.apply_evict.Goals as goal
 
-pub returns-in-Some-clause-illegal : goal.returns-in-Some-clause-illegal
-returns-in-Some-clause-illegal g c = λ who part same.
+pub returns-in-Some : goal.returns-in-Some
+returns-in-Some g c = λ who actor.
     let x : Seals = seals_by (g.S.Sealer.key c.args.sealer.now) in
-    refused x c.args.self.now who (Evict c.args.page c.args.frame) [] c.in-Some.part part same
-    (evict_illegal x c.args.self.now who c.args.page c.args.frame c.in-Some.part c.requires.page c.in-Some.ensures)
+    refused x c.args.self.now who (Evict c.args.page c.args.frame) [] c.in-Some.part (evict_illegal x c.args.self.now who c.args.page c.args.frame c.in-Some.part c.requires.page c.in-Some.ensures)
 
-pub returns-in_err-puts-clause-illegal : goal.returns-in_err-puts-clause-illegal
-returns-in_err-puts-clause-illegal g c = λ who part same. absurd (no_offence c.from_residual.result part c.from_residual.ensures.1 same)
+pub returns-in_err-puts : goal.returns-in_err-puts
+returns-in_err-puts g c = λ who actor.
+    wanting (seals_by (g.S.Sealer.key c.args.sealer.now)) c.args.self.now who (Evict c.args.page c.args.frame) [] c.from_residual.result c.evict.new.self c.from_residual.ensures.1 c.in_err-puts.ensures.err c.in_default.ensures
 
-pub returns-clause-applied : goal.returns-clause-applied
-returns-clause-applied g c = λ who actor.
+pub returns : goal.returns
+returns g c = λ who actor.
     let x : Seals = seals_by (g.S.Sealer.key c.args.sealer.now) in
-    evict_applied x c.args.self.now c.evict.new.self who c.args.page c.args.frame c.in_ok-puts.puts c.requires.page c.in_default.ensures (c.in_ok-puts.ensures.makes who actor) (c.in_ok-puts.ensures.puts who)
-
-pub returns-in_err-puts-clause-memory : goal.returns-in_err-puts-clause-memory
-returns-in_err-puts-clause-memory g c = λ who same. c.in_default.ensures
+    came x c.args.self.now who (Evict c.args.page c.args.frame) [] c.evict.new.self (record { reply = Done; puts = c.in_ok-puts.puts })
+    (evict_applied x c.args.self.now c.evict.new.self who c.args.page c.args.frame c.in_ok-puts.puts c.requires.page c.in_default.ensures (c.in_ok-puts.ensures.makes who actor) (c.in_ok-puts.ensures.puts who))
+    c.in_ok-puts.ensures.blocks
