@@ -16,7 +16,7 @@ mod words;
 
 pub use block::{BLOCK_BITS, BLOCK_BYTES, Block};
 pub use crossings::{Crossings, MOST_TOLD};
-pub use hand::{Act, Answer, HostHand};
+pub use hand::{Act, ActAnswer, HostHand};
 pub use port::{HostPort, HostStore};
 pub use room::{HostOpener, HostRoom};
 pub use shared::{SharedHand, SharedHost, SharedPort};

@@ -14,45 +14,45 @@ use Rattle.eleos_core.specs.State.{entry}
 use Rattle.eleos_base.specs.declared.sizes.TheConstants.{MOST_WRITTEN}
 use Rattle.eleos_plot.specs.declared.draft.TheConstants.{BLOCK_BYTES, MOST_BLOCKS, MOST_LOOKED, MOST_TEXT}
 use Rattle.eleos_plot.specs.declared.draft.Draft.TheInside.{Inside}
-use Rattle.eleos_plot.specs.declared.kinds.EventKind.{EventKind}
-use Rattle.eleos_plot.specs.declared.kinds.EventKind.TheVariants.{Op, Link, Unlink, Fill, Evict, Move, Starved, Spoiled, Survey}
-use Rattle.eleos_plot.specs.declared.kinds.OpKind.{OpKind}
-use Rattle.eleos_plot.specs.declared.kinds.OpKind.TheVariants.{Alloc, Free, Share, Read, Write}
-use Rattle.eleos_plot.specs.declared.kinds.ReplyKind.{ReplyKind}
-use Rattle.eleos_plot.specs.declared.kinds.ReplyKind.TheVariants.{Got, Done, Text, BadSize, NoSpace, NotABlock, BadRange, Unallocated, NotYours, Worn, NoFrame, Tampered, Enough, Swept, Reached, Pinned, Short}
-use Rattle.eleos_plot.specs.declared.kinds.WantedKind.{WantedKind}
-use Rattle.eleos_plot.specs.declared.kinds.WantedKind.TheVariants.{Link as ALink, Op as ACall}
+use Rattle.eleos_plot.specs.declared.refs.EventOf.{EventOf}
+use Rattle.eleos_plot.specs.declared.refs.EventOf.TheVariants.{Op, Link, Unlink, Fill, Evict, Move, Starved, Spoiled, Survey}
+use Rattle.eleos_plot.specs.declared.refs.OpOf.{OpOf}
+use Rattle.eleos_plot.specs.declared.refs.OpOf.TheVariants.{Alloc, Free, Share, Read, Write}
+use Rattle.eleos_plot.specs.declared.refs.ReplyOf.{ReplyOf}
+use Rattle.eleos_plot.specs.declared.refs.ReplyOf.TheVariants.{Got, Done, Text, BadSize, NoSpace, NotABlock, BadRange, Unallocated, NotYours, Worn, NoFrame, Tampered, Enough, Swept, Reached, Pinned, Short}
+use Rattle.eleos_plot.specs.declared.refs.WantedOf.{WantedOf}
+use Rattle.eleos_plot.specs.declared.refs.WantedOf.TheVariants.{Link as ALink, Op as ACall}
 
 -- the call, where these bytes are written
-abbrev pub op_with : List ℕ → OpKind → Calls
+abbrev pub op_with : {B : Type 0} → List ℕ → OpOf B → Calls
 op_with written (Alloc n) = calls.Alloc n
 op_with written (Free at) = calls.Free at
 op_with written (Share at) = calls.Share at
 op_with written (Read at n) = calls.Read at n
-op_with written (Write at) = calls.Write at written
+op_with written (Write at bytes) = calls.Write at written
 
 -- what was wanted, a link or a call, where these bytes were to be written
-abbrev pub wanted_with : List ℕ → WantedKind → Wanted
+abbrev pub wanted_with : {B : Type 0} → List ℕ → WantedOf B → Wanted
 wanted_with written (ALink at) = wanted.Link at
 wanted_with written (ACall op) = wanted.Op (op_with written op)
 
 -- the event, where these bytes are written and the sweep has these words
-abbrev pub event_with : List ℕ → List Looked → EventKind → Event
+abbrev pub event_with : {B : Type 0} → List ℕ → List Looked → EventOf B → Event
 event_with written sweep (Op op) = events.Op (op_with written op)
 event_with written sweep (Link at) = events.Link at
 event_with written sweep (Unlink p) = events.Unlink p
 event_with written sweep (Fill p f) = events.Fill p f
 event_with written sweep (Evict p f) = events.Evict p f
 event_with written sweep (Move f from to) = events.Move f from to
-event_with written sweep (Starved kind) = events.Starved (wanted_with written kind) sweep
-event_with written sweep (Spoiled kind) = events.Spoiled (wanted_with written kind)
+event_with written sweep (Starved what) = events.Starved (wanted_with written what) sweep
+event_with written sweep (Spoiled what) = events.Spoiled (wanted_with written what)
 event_with written sweep (Survey e goal) = events.Survey e goal sweep
 
 -- the reply, where it has these bytes and these words
-abbrev pub reply_with : List ℕ → List Looked → ReplyKind → Reply
+abbrev pub reply_with : {B : Type 0} → List ℕ → List Looked → ReplyOf B → Reply
 reply_with text sweep (Got at) = replies.Got at
 reply_with text sweep Done = replies.Done
-reply_with text sweep Text = replies.Text text
+reply_with text sweep (Text bytes) = replies.Text text
 reply_with text sweep BadSize = replies.BadSize
 reply_with text sweep NoSpace = replies.NoSpace
 reply_with text sweep NotABlock = replies.NotABlock

@@ -3,7 +3,7 @@ ghost use Rattle.std.specs.Prelude.{◌≡◌, ◌+◌, ◌<◌, ◌≤◌, ◌+
 
 use crate::kinds::{EventKind, ReplyKind};
 use crate::refs::{EventRef, ReplyRef};
-use eleos_base::{Looked, MOST_WRITTEN, NoMemory, Plan};
+use eleos_base::{Looked, MOST_WRITTEN, NoMemory};
 use std::alloc::Global;
 use std::marker::Model;
 
@@ -52,8 +52,8 @@ impl Draft {
     ghost use Rattle.eleos_plot.specs.Entries.{with_block, with_looked};
     ghost use Rattle.eleos_plot.specs.Refs.{event_bytes, event_of, reply_bytes, reply_of};
 
-    /// Takes the memory of any entry of a machine. The room is the same for each good plan.
-    pub fn make(alloc: Global, _plan: &Plan) -> Result<Draft, NoMemory>
+    /// Takes the memory of any entry of a machine.
+    pub fn make(alloc: Global) -> Result<Draft, NoMemory>
         ensures { IfOk result (λ draft. draft ≡ blank_stamp) }
     {
         Ok(Draft {

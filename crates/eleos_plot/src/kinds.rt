@@ -2,79 +2,15 @@
 
 ghost use Rattle.std.specs.Prelude.{◌≡◌, []};
 
-use crate::refs::{EventRef, OpRef, ReplyRef, WantedRef};
-use eleos_base::Addr;
-use eleos_core::Goal;
+use crate::refs::{EventOf, EventRef, OpOf, OpRef, ReplyOf, ReplyRef, WantedOf, WantedRef};
 
-#[derive(Clone, Copy, Debug)]
-pub(crate) enum OpKind {
-    Alloc { bytes: u32 },
-    Free { at: Addr },
-    Share { at: Addr },
-    Read { at: Addr, len: u32 },
-    Write { at: Addr },
-}
+pub(crate) type OpKind = OpOf<()>;
 
-#[derive(Clone, Copy, Debug)]
-pub(crate) enum WantedKind {
-    Link { at: Addr },
-    Op(OpKind),
-}
+pub(crate) type WantedKind = WantedOf<()>;
 
-#[derive(Clone, Copy, Debug)]
-pub(crate) enum EventKind {
-    Op(OpKind),
-    Link {
-        at: Addr,
-    },
-    Unlink {
-        page: u32,
-    },
-    Fill {
-        page: u32,
-        frame: u32,
-    },
-    Evict {
-        page: u32,
-        frame: u32,
-    },
-    Move {
-        frame: u32,
-        from: Option<u16>,
-        to: Option<u16>,
-    },
-    Starved {
-        wanted: WantedKind,
-    },
-    Spoiled {
-        wanted: WantedKind,
-    },
-    Survey {
-        enclave: u16,
-        goal: Goal,
-    },
-}
+pub(crate) type EventKind = EventOf<()>;
 
-#[derive(Clone, Copy, Debug)]
-pub(crate) enum ReplyKind {
-    Got(Addr),
-    Done,
-    Text,
-    BadSize,
-    NoSpace,
-    NotABlock,
-    BadRange,
-    Unallocated,
-    NotYours { owner: u32 },
-    Worn { sub: u32 },
-    NoFrame,
-    Tampered { sub: u32 },
-    Enough { free: u32 },
-    Swept { free: u32 },
-    Reached { share: u32 },
-    Pinned { share: u32 },
-    Short { share: u32 },
-}
+pub(crate) type ReplyKind = ReplyOf<()>;
 
 impl<'a> OpRef<'a> {
     ghost use Rattle.eleos_plot.specs.Drafts.{op_with};
@@ -88,7 +24,7 @@ impl<'a> OpRef<'a> {
             OpRef::Free { at } => OpKind::Free { at },
             OpRef::Share { at } => OpKind::Share { at },
             OpRef::Read { at, len } => OpKind::Read { at, len },
-            OpRef::Write { at, bytes: _ } => OpKind::Write { at },
+            OpRef::Write { at, bytes: _ } => OpKind::Write { at, bytes: () },
         }
     }
 
@@ -172,7 +108,7 @@ impl<'a> ReplyRef<'a> {
         match self {
             ReplyRef::Got(at) => ReplyKind::Got(at),
             ReplyRef::Done => ReplyKind::Done,
-            ReplyRef::Text(_) => ReplyKind::Text,
+            ReplyRef::Text(_) => ReplyKind::Text(()),
             ReplyRef::BadSize => ReplyKind::BadSize,
             ReplyRef::NoSpace => ReplyKind::NoSpace,
             ReplyRef::NotABlock => ReplyKind::NotABlock,

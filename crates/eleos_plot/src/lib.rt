@@ -15,4 +15,4 @@ pub use cell::Cell;
 pub use draft::{BLOCK_BYTES, Draft, MOST_BLOCKS, MOST_LOOKED, MOST_TEXT};
 pub use frame_list::FrameList;
 pub use plot::{CellPart, CorePlot, Ground};
-pub use refs::{EventRef, OpRef, ReplyRef, WantedRef};
+pub use refs::{EventOf, EventRef, OpOf, OpRef, ReplyOf, ReplyRef, WantedOf, WantedRef};

@@ -45,7 +45,7 @@ impl Plot for CorePlot {
     fn tied(draft: &Draft) -> Tied {
         match draft.event {
             EventKind::Link { at: _ } => match draft.reply {
-                ReplyKind::Got(_) | ReplyKind::Done | ReplyKind::Text => Tied::Adds,
+                ReplyKind::Got(_) | ReplyKind::Done | ReplyKind::Text(()) => Tied::Adds,
                 _ => Tied::No,
             },
             EventKind::Unlink { page: _ } => Tied::Takes,

@@ -1,29 +1,30 @@
-// An entry's event and reply, as a draft is told of them: bytes are lent.
+// An entry's event and reply, as a draft is told of them and keeps them: their bytes and their sweep
+// are not in them. A draft is told of bytes that are lent, and keeps nothing in their place.
 
 use eleos_base::Addr;
 use eleos_core::Goal;
 
-/// A call on memory, with the bytes of a write lent.
+/// A call on memory, with what stands for the bytes of a write.
 #[derive(Clone, Copy, Debug)]
-pub enum OpRef<'a> {
+pub enum OpOf<B> {
     Alloc { bytes: u32 },
     Free { at: Addr },
     Share { at: Addr },
     Read { at: Addr, len: u32 },
-    Write { at: Addr, bytes: &'a [u8] },
+    Write { at: Addr, bytes: B },
 }
 
-/// What needed a frame.
+/// What needed a frame, with what stands for the bytes of a write.
 #[derive(Clone, Copy, Debug)]
-pub enum WantedRef<'a> {
+pub enum WantedOf<B> {
     Link { at: Addr },
-    Op(OpRef<'a>),
+    Op(OpOf<B>),
 }
 
-/// An event of the machine with an empty sweep.
+/// An event of the machine without its sweep, and with what stands for the bytes of a write.
 #[derive(Clone, Copy, Debug)]
-pub enum EventRef<'a> {
-    Op(OpRef<'a>),
+pub enum EventOf<B> {
+    Op(OpOf<B>),
     Link {
         at: Addr,
     },
@@ -44,10 +45,10 @@ pub enum EventRef<'a> {
         to: Option<u16>,
     },
     Starved {
-        wanted: WantedRef<'a>,
+        wanted: WantedOf<B>,
     },
     Spoiled {
-        wanted: WantedRef<'a>,
+        wanted: WantedOf<B>,
     },
     Survey {
         enclave: u16,
@@ -55,12 +56,12 @@ pub enum EventRef<'a> {
     },
 }
 
-/// A reply, with its text lent and with an empty sweep.
+/// A reply without its sweep, and with what stands for the bytes of its text.
 #[derive(Clone, Copy, Debug)]
-pub enum ReplyRef<'a> {
+pub enum ReplyOf<B> {
     Got(Addr),
     Done,
-    Text(&'a [u8]),
+    Text(B),
     BadSize,
     NoSpace,
     NotABlock,
@@ -76,3 +77,15 @@ pub enum ReplyRef<'a> {
     Pinned { share: u32 },
     Short { share: u32 },
 }
+
+/// A call, with the bytes of a write lent.
+pub type OpRef<'a> = OpOf<&'a [u8]>;
+
+/// What needed a frame, with the bytes of a write lent.
+pub type WantedRef<'a> = WantedOf<&'a [u8]>;
+
+/// An event with an empty sweep, and with the bytes of a write lent.
+pub type EventRef<'a> = EventOf<&'a [u8]>;
+
+/// A reply with an empty sweep, and with its text lent.
+pub type ReplyRef<'a> = ReplyOf<&'a [u8]>;
