@@ -109,11 +109,11 @@ home_kept z z' is machine = subst IsMachine (sym is) machine
 
 -- what a take leaves of a pass
 pub after_take : (c n : ℕ) (v s : PassState) (hand' : HandState Stamp Part Ground) (x : Cell) → v ≡ s → 0 < s.hand.number → IsLawful s → IsSound core_terms hand' → Took core_terms c n v.hand x hand'
-    → let s' : PassState = record { hand = hand'; draft = v.draft; sweep = v.sweep } in TookTurn c n s x s' × IsLawful s'
+    → let s' : PassState = record { hand = hand'; draft = v.draft; sweep = v.sweep; pointers = v.pointers } in TookTurn c n s x s' × IsLawful s'
 after_take c n v s hand' x is made law sound took =
-    subst (λ (y : PassState). Took core_terms c n y.hand x hand' → let s' : PassState = record { hand = hand'; draft = y.draft; sweep = y.sweep } in TookTurn c n s x s' × IsLawful s') (sym is)
+    subst (λ (y : PassState). Took core_terms c n y.hand x hand' → let s' : PassState = record { hand = hand'; draft = y.draft; sweep = y.sweep; pointers = y.pointers } in TookTurn c n s x s' × IsLawful s') (sym is)
     (λ took.
-    let s' : PassState = record { hand = hand'; draft = s.draft; sweep = s.sweep } in
+    let s' : PassState = record { hand = hand'; draft = s.draft; sweep = s.sweep; pointers = s.pointers } in
     let law' = lawful s' (home_kept s.hand.home hand'.home (ap (λ (y : HandState Stamp Part Ground). y.home) took.now) law.machine) sound in
     (took_turn c n s s' x made law law' refl took, law'))
     took
@@ -121,20 +121,20 @@ after_take c n v s hand' x is made law sound took =
 -- what a try leaves of a pass, whether it took the turn or not
 pub after_try : (c : ℕ) (v s : PassState) (hand' : HandState Stamp Part Ground) (r : Result (Taken Cell) Busy) → v ≡ s → 0 < s.hand.number → IsLawful s → IsSound core_terms hand'
     → IfOk r (λ t. Took core_terms c t.word v.hand t.value hand') → IfErr r (λ b. hand' ≡ refused_at v.hand c b.word)
-    → let s' : PassState = record { hand = hand'; draft = v.draft; sweep = v.sweep } in IfOk r (λ t. TookTurn c t.word s t.value s') × IsLawful s'
+    → let s' : PassState = record { hand = hand'; draft = v.draft; sweep = v.sweep; pointers = v.pointers } in IfOk r (λ t. TookTurn c t.word s t.value s') × IsLawful s'
 after_try c v s hand' (Ok t) is made law sound took refused = after_take c t.word v s hand' t.value is made law sound took
 after_try c v s hand' (Err b) is made law sound took refused =
-    subst (λ (y : PassState). hand' ≡ refused_at y.hand c b.word → let s' : PassState = record { hand = hand'; draft = y.draft; sweep = y.sweep } in (Unit {0}) × IsLawful s') (sym is)
-    (λ refused. (tt, lawful (record { hand = hand'; draft = s.draft; sweep = s.sweep }) (home_kept s.hand.home hand'.home (ap (λ (y : HandState Stamp Part Ground). y.home) refused) law.machine) sound))
+    subst (λ (y : PassState). hand' ≡ refused_at y.hand c b.word → let s' : PassState = record { hand = hand'; draft = y.draft; sweep = y.sweep; pointers = y.pointers } in (Unit {0}) × IsLawful s') (sym is)
+    (λ refused. (tt, lawful (record { hand = hand'; draft = s.draft; sweep = s.sweep; pointers = s.pointers }) (home_kept s.hand.home hand'.home (ap (λ (y : HandState Stamp Part Ground). y.home) refused) law.machine) sound))
     refused
 
 -- what a stamp leaves of a pass
 pub after_stamp : (n : ℕ) (v s : PassState) (hand' : HandState Stamp Part Ground) → v ≡ s → IsLawful s → MayStamp s → IsSound core_terms hand' → Stamped core_terms v.draft (kept_of v.hand v.draft) v.hand n hand'
-    → let s' : PassState = record { hand = hand'; draft = v.draft; sweep = after_entry v.draft.entry.event v.sweep } in HasStamped s n s' × IsLawful s'
+    → let s' : PassState = record { hand = hand'; draft = v.draft; sweep = after_entry v.draft.entry.event v.sweep; pointers = v.pointers } in HasStamped s n s' × IsLawful s'
 after_stamp n v s hand' is law may sound stamped =
-    subst (λ (y : PassState). Stamped core_terms y.draft (kept_of y.hand y.draft) y.hand n hand' → let s' : PassState = record { hand = hand'; draft = y.draft; sweep = after_entry y.draft.entry.event y.sweep } in HasStamped s n s' × IsLawful s') (sym is)
+    subst (λ (y : PassState). Stamped core_terms y.draft (kept_of y.hand y.draft) y.hand n hand' → let s' : PassState = record { hand = hand'; draft = y.draft; sweep = after_entry y.draft.entry.event y.sweep; pointers = y.pointers } in HasStamped s n s' × IsLawful s') (sym is)
     (λ stamped.
-    let s' : PassState = record { hand = hand'; draft = s.draft; sweep = after_entry s.draft.entry.event s.sweep } in
+    let s' : PassState = record { hand = hand'; draft = s.draft; sweep = after_entry s.draft.entry.event s.sweep; pointers = s.pointers } in
     let law' = lawful s' (home_kept s.hand.home hand'.home (ap (λ (y : HandState Stamp Part Ground). y.home) stamped.now) law.machine) sound in
     (has_stamped s s' n law law' may refl stamped, law'))
     stamped

@@ -1,6 +1,7 @@
 pub mod Judging
 pub mod Machines
 pub mod Notes
+pub mod Pointers
 pub mod Passes
 pub mod Stamping
 pub mod Holding

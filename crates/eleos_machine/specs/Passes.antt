@@ -1,5 +1,5 @@
 -- What contracts see of a pass, and what holds of each.
-use Rattle.std.specs.Prelude.{◌≡◌, ℕ, List, [], ◌∷◌}
+use Rattle.std.specs.Prelude.{◌≡◌, ℕ, List, [], ◌∷◌, Option}
 use Rattle.eleos_base.specs.declared.plan.Plan.{Plan}
 use Rattle.eleos_base.specs.Ties.{Has}
 use Rattle.eleos_core.specs.Parts.{Part, Stamp, cell_of}
@@ -12,19 +12,25 @@ use Rattle.eleos_plot.specs.Entries.{blank_stamp}
 use Rattle.eleos_plot.specs.Fits.{Fits}
 use Rattle.eleos_plot.specs.Histories.{IsMachineRun, history_of, part_after}
 use Rattle.eleos_plot.specs.Terms.{core_terms}
-use Rattle.eleos_turn.specs.Hands.{Goes, HandState, IsSound, Took, without_turn}
+use Rattle.eleos_turn.specs.Hands.{Goes, HandState, IsSound, Took, links_on, without_turn}
+use Rattle.eleos_turn.specs.Numbers.{times}
 use Rattle.eleos_machine.specs.Machines.{IsMachine, plan_at, seals_at}
+use Rattle.eleos_machine.specs.declared.pointers.Pointer.{Pointer}
+use Rattle.eleos_machine.specs.declared.pointers.SpId.{SpId}
 use Rattle.eleos_machine.specs.Notes.{Sweep, no_sweep}
+use Rattle.eleos_machine.specs.Pointers.{linked_in, pointer_in}
 
--- a pass: its hand at the machine's turnstile, the entry that it is to stamp next, and what it noted in its search among frames
+-- a pass: its hand at the machine's turnstile, the entry that it is to stamp next, what it noted in its search among frames, and its pointers,
+-- each under a key from 0 on
 pub record PassState : Type 0 where
   pub hand : HandState Stamp Part Ground
   pub draft : Stamp
   pub sweep : Sweep
+  pub pointers : List (Option Pointer)
 
 -- the pass of a hand that was just dealt
 abbrev pub new_pass : HandState Stamp Part Ground → PassState
-new_pass hand = record { hand = hand; draft = blank_stamp; sweep = no_sweep }
+new_pass hand = record { hand = hand; draft = blank_stamp; sweep = no_sweep; pointers = [] }
 
 -- the number of the last of these entries, each with its stamp, and 0 where there is none
 abbrev pub last_stamp : List (ℕ × Stamp) → ℕ
@@ -47,6 +53,19 @@ seen s = history_of s.hand.seen
 -- what that history made of a cell
 abbrev pub part_seen : PassState → ℕ → Part
 part_seen s c = part_after s.hand.home.base.grounds (seen s) c
+
+-- the pointer of this name, or none
+abbrev pub pointer_of : PassState → SpId → Option Pointer
+pointer_of s id = pointer_in s.pointers id.key
+
+-- how many linked pointers the pass has on the page of a cell
+abbrev pub linked_on : PassState → ℕ → ℕ
+linked_on s c = linked_in (plan_of s) s.pointers c
+
+-- on each cell the pass has as many pins, and as many links, as it has linked pointers there
+pub record AreLinked (s : PassState) : Type 0 where
+  pub pins : (c : ℕ) → times c s.hand.pins ≡ linked_on s c
+  pub links : (c : ℕ) → links_on core_terms s.hand c ≡ linked_on s c
 
 -- what holds of each pass at any time: its machine was made of a good plan, and what it has seen is a legal history of that machine
 pub record IsLawful (s : PassState) : Type 0 where

@@ -11,10 +11,9 @@ ghost use Rattle.eleos_machine.specs.Machines.{IsMachine, all_passes, plan_at};
 ghost use Rattle.eleos_machine.specs.Passes.{last_stamp};
 
 use crate::machine::Machine;
-use crate::notes::Notes;
-use crate::pass::Pass;
+use crate::pass::{Local, Pass};
 use eleos_base::Sealer;
-use eleos_plot::{CorePlot, Draft};
+use eleos_plot::CorePlot;
 use eleos_turn::{Closed, Hand, Turnstile};
 
 /// Why a machine is not closed.
@@ -40,8 +39,7 @@ pub struct CloseRefused<S: Sealer> {
 
 impl<S: Sealer + Drop> Machine<S> {
     /// Ends the machine, and gives a pass that has seen the whole history. It is refused exactly
-    /// where
-    /// there is a fault; then all is handed back. Takes no memory.
+    /// where there is a fault; then all is handed back. Takes no memory.
     pub fn close(self, passes: Vec<Pass>) -> Result<Pass, CloseRefused<S>>
         requires own { AllOfMachine self passes.items }
         ensures done { IsOk result → close_fault self.base.hands passes.items ≡ None }
@@ -64,12 +62,7 @@ impl<S: Sealer + Drop> Machine<S> {
             sealer: _sealer,
             first_frame: _first_frame,
         } = self;
-        let PartedPasses {
-            hands,
-            draft,
-            notes,
-            room,
-        } = parted(&turnstile, passes);
+        let PartedPasses { hands, local } = parted(&turnstile, passes);
         let Ok(
             Closed {
                 hand,
@@ -81,10 +74,7 @@ impl<S: Sealer + Drop> Machine<S> {
         };
         Ok(Pass {
             hand,
-            draft,
-            notes,
-            last: 0,
-            room,
+            local: Local { last: 0, ..local },
         })
     }
 }
@@ -150,22 +140,20 @@ fn has_turn(pass: &Pass) -> bool
     pass.hand.turns() != 0
 }
 
-/// The hands of passes, and the room, the draft and the notes of one.
+/// The hands of passes, and what one of them had beside its hand.
 struct PartedPasses {
     hands: Vec<Hand<CorePlot>>,
-    draft: Draft,
-    notes: Notes,
-    room: Vec<Hand<CorePlot>>,
+    local: Local,
 }
 
-/// The hands of the passes, in the room of the last, and the draft and the room of another.
+/// The hands of the passes, in the room of the last, and what another has beside its hand.
 fn parted(_turnstile: &Turnstile<CorePlot>, passes: Vec<Pass>) -> PartedPasses
     requires own { AllOfMachine _turnstile.now passes.items }
     requires some { 1 < length passes.items }
     requires all { length passes.items ≤ all_passes (plan_at _turnstile.now) }
     ensures hands { result.hands.items ≡ hands_of passes.items }
-    ensures empty { result.room.items ≡ [] }
-    ensures room { all_passes (plan_at _turnstile.now) ≤ vec_capacity result.room }
+    ensures empty { result.local.room.items ≡ [] }
+    ensures room { all_passes (plan_at _turnstile.now) ≤ vec_capacity result.local.room }
 {
     let mut passes = passes;
     let (Some(last), Some(other)) = (passes.pop(), passes.pop()) else {
@@ -173,27 +161,13 @@ fn parted(_turnstile: &Turnstile<CorePlot>, passes: Vec<Pass>) -> PartedPasses
     };
     let Pass {
         hand: last,
-        draft: _draft,
-        notes: _notes,
-        last: _last,
-        room: hands,
+        local: Local { room: hands, .. },
     } = last;
-    let Pass {
-        hand: other,
-        draft,
-        notes,
-        last: _last,
-        room,
-    } = other;
+    let Pass { hand: other, local } = other;
     let hands = with_hands(hands, passes);
     let hands = with_hand(hands, other);
     let hands = with_hand(hands, last);
-    PartedPasses {
-        hands,
-        draft,
-        notes,
-        room,
-    }
+    PartedPasses { hands, local }
 }
 
 /// The hands of the passes, in the room for them.

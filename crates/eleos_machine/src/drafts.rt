@@ -20,14 +20,14 @@ impl Pass {
         } }
     {
         let who = self.hand.number();
-        self.draft.set(who, event, reply);
+        self.local.draft.set(who, event, reply);
     }
 
     /// Says how many sub-pages the block has that the draft's entry frees or shares.
     pub fn set_len(&mut self, len: u32)
         ensures { self.new ≡ record self.old { draft = record self.old.draft { len = len } } }
     {
-        self.draft.set_len(len);
+        self.local.draft.set_len(len);
     }
 
     /// Appends a block to the draft.
@@ -36,7 +36,7 @@ impl Pass {
         requires whole { length block.now ≡ 1024 }
         ensures { self.new ≡ record self.old { draft = with_block self.old.draft block.now } }
     {
-        self.draft.add_block(block);
+        self.local.draft.add_block(block);
     }
 
     /// Appends a word to the sweep of the draft's event, and to that of its reply if it has one.
@@ -45,6 +45,6 @@ impl Pass {
         requires room { length (sweep_of self.old.draft.entry.event) < 512 }
         ensures { self.new ≡ record self.old { draft = with_looked self.old.draft word } }
     {
-        self.draft.add_looked(word);
+        self.local.draft.add_looked(word);
     }
 }

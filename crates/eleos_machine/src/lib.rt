@@ -14,6 +14,7 @@ mod notes;
 mod numbers;
 mod opening;
 mod pass;
+mod pointers;
 mod sweeping;
 mod turns;
 
@@ -24,3 +25,4 @@ pub use machine::Machine;
 pub use making::MakeRefused;
 pub use numbers::{clock_cell, page_cell};
 pub use pass::{Pass, RestPass};
+pub use pointers::{MOST_POINTERS, Pointer, SpId};

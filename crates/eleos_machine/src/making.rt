@@ -12,12 +12,11 @@ ghost use Rattle.eleos_machine.specs.Passes.{last_stamp, new_pass};
 use crate::cells::opening_cells;
 use crate::judging::{PlanField, fault_of};
 use crate::machine::Machine;
-use crate::notes::Notes;
 use crate::numbers::first_frame;
 use crate::opening::open;
-use crate::pass::Pass;
+use crate::pass::{Local, Pass};
 use eleos_base::{NoMemory, Plan, Sealer};
-use eleos_plot::{CorePlot, Draft};
+use eleos_plot::CorePlot;
 use eleos_turn::{Hand, Turnstile};
 use std::alloc::Global;
 
@@ -39,8 +38,7 @@ impl From<NoMemory> for MakeRefused {
 
 impl<S: Sealer + Drop> Machine<S> {
     /// Makes the machine of a plan, with its passes: those of the callers first, then the swapper's
-    /// and
-    /// the balloon's. All room for later calls is taken here.
+    /// and the balloon's. All room for later calls is taken here.
     pub fn make(
         alloc: Global,
         plan: &Plan,
@@ -77,7 +75,7 @@ fn make_good<S: Sealer + Drop>(
     let count = plan.callers.len() as u32 + 2;
     let cells = opening_cells(alloc, plan)?;
     let (turnstile, hands) = open(alloc, cells, plan, &sealer, count)?;
-    let passes = passes_of(alloc, plan, &turnstile, hands, count)?;
+    let passes = passes_of(alloc, &turnstile, hands, count)?;
     let machine = Machine {
         turnstile,
         plan: plan.copy(alloc)?,
@@ -90,7 +88,6 @@ fn make_good<S: Sealer + Drop>(
 /// The passes of these hands, each with room for as many.
 fn passes_of(
     alloc: Global,
-    plan: &Plan,
     _turnstile: &Turnstile<CorePlot>,
     hands: Vec<Hand<CorePlot>>,
     count: u32,
@@ -105,10 +102,7 @@ fn passes_of(
     for hand in hands {
         passes.push(Pass {
             hand,
-            draft: Draft::make(alloc, plan)?,
-            notes: Notes::make(alloc)?,
-            last: 0,
-            room: Vec::with_capacity(alloc, count as usize)?,
+            local: Local::make(alloc, count)?,
         })?;
     }
     Ok(passes)

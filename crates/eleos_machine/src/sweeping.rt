@@ -27,7 +27,7 @@ impl<S: Sealer> Machine<S> {
         requires own { pass.old.hand.home ≡ self.now }
         ensures { pass.new ≡ record pass.old { sweep = cleared all pass.old.sweep } }
     {
-        pass.notes.clear(all);
+        pass.local.notes.clear(all);
     }
 
     /// Notes with 0 a free frame whose turn the pass has, once, in place of another note of it.
@@ -40,7 +40,7 @@ impl<S: Sealer> Machine<S> {
     {
         // A machine has few frames.
         let _ = self.plan();
-        pass.notes.add_free(frame.frame);
+        pass.local.notes.add_free(frame.frame);
     }
 
     /// The word of a cell, whoever has the turn. It is noted of the frame where it shows BUSY or,
@@ -57,7 +57,7 @@ impl<S: Sealer> Machine<S> {
     {
         let word = self.look(pass, cell);
         let on_page = cell != self.frame_cell(frame);
-        pass.notes.add_word(frame, word, on_page);
+        pass.local.notes.add_word(frame, word, on_page);
         word
     }
 
@@ -85,7 +85,7 @@ impl<S: Sealer> Machine<S> {
             Err(busy) => busy.word,
         };
         let on_page = cell != self.frame_cell(frame);
-        pass.notes.add_word(frame, word, on_page);
+        pass.local.notes.add_word(frame, word, on_page);
         tried
     }
 }
@@ -99,7 +99,7 @@ impl Pass {
         ensures { self.new
             ≡ record self.old { draft = swept self.old.sweep.words self.old.draft } }
     {
-        add_all(&mut self.draft, self.notes.words());
+        add_all(&mut self.local.draft, self.local.notes.words());
     }
 }
 

@@ -119,9 +119,9 @@ impl<S: Sealer> Machine<S> {
         ensures lawful { IsLawful pass.new }
     {
         let _ = pass.left();
-        let place = enter::<CorePlot>(&self.turnstile, &mut pass.hand, &pass.draft);
-        pass.last = place;
-        pass.notes.age(pass.draft.is_survey());
+        let place = enter::<CorePlot>(&self.turnstile, &mut pass.hand, &pass.local.draft);
+        pass.local.last = place;
+        pass.local.notes.age(pass.local.draft.is_survey());
         place
     }
 }

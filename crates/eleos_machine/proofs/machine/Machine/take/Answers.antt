@@ -14,6 +14,6 @@ returns-clause-lawful g c = (after_take c.args.cell c.take.result.word _ c.args.
 
 pub invariant_of-pass : goal.invariant_of-pass
 invariant_of-pass g c =
-    fields_kept c.pass.inside.hand c.take.new.hand c.pass.inside.last (c.pass.inside.room.items ≡ []) (vec_capacity c.pass.inside.room)
+    fields_kept c.pass.inside.hand c.take.new.hand c.pass.inside.local.last (c.pass.inside.local.room.items ≡ []) (vec_capacity c.pass.inside.local.room)
     (goes_took core_terms c.args.cell c.take.result.word c.pass.inside.hand c.take.new.hand c.take.result.value (subst (λ (s : PassState). 0 < s.hand.number) (sym c.pass.view_is) c.requires.made) c.take.ensures.took)
     c.pass.invariant

@@ -12,6 +12,6 @@ returns-clause-lawful g c = (after_try c.args.cell _ c.args.pass.now c.try_take.
 
 pub invariant_of-pass : goal.invariant_of-pass
 invariant_of-pass g c =
-    fields_kept c.pass.inside.hand c.try_take.new.hand c.pass.inside.last (c.pass.inside.room.items ≡ []) (vec_capacity c.pass.inside.room)
+    fields_kept c.pass.inside.hand c.try_take.new.hand c.pass.inside.local.last (c.pass.inside.local.room.items ≡ []) (vec_capacity c.pass.inside.local.room)
     (goes_tried c.args.cell c.try_take.result c.pass.inside.hand c.try_take.new.hand (subst (λ (s : PassState). 0 < s.hand.number) (sym c.pass.view_is) c.requires.made) c.try_take.ensures.took c.try_take.ensures.refused)
     c.pass.invariant
