@@ -76,6 +76,24 @@ pub fn share<S: Sealer, R: Wait>(
     change_block(rt, m, pass, at, Change::Share)
 }
 
+/// Frees or shares the caller's block that starts at the address.
+pub fn change_block<S: Sealer, R: Wait>(
+    rt: &R,
+    m: &Machine<S>,
+    pass: &mut Pass,
+    at: Addr,
+    change: Change,
+) -> Result<(), BlockRefused>
+    requires can { CanCall m.now pass.old }
+    ensures one { HasCalled pass.old (call_of change at) (block_reply result) pass.new }
+{
+    let enclave = enclave_of(m.plan(), pass.who());
+    let mut blocks = take_blocks(rt, m, pass, enclave);
+    let answer = change_in(rt, m, pass, enclave, &mut blocks, at, change);
+    m.give(pass, u32::from(enclave), Cell::Alloc(blocks));
+    answer
+}
+
 /// Allocates among the enclave's live blocks, whose turn the pass has.
 fn alloc_in<S: Sealer, R: Wait>(
     rt: &R,
@@ -119,24 +137,6 @@ fn alloc_in<S: Sealer, R: Wait>(
     stamp_with_pages(rt, m, pass, run.first_page(), run, Mark::Blank(Some(block)));
     blocks.add(block);
     Ok(at)
-}
-
-/// Frees or shares the caller's block that starts at the address.
-fn change_block<S: Sealer, R: Wait>(
-    rt: &R,
-    m: &Machine<S>,
-    pass: &mut Pass,
-    at: Addr,
-    change: Change,
-) -> Result<(), BlockRefused>
-    requires can { CanCall m.now pass.old }
-    ensures one { HasCalled pass.old (call_of change at) (block_reply result) pass.new }
-{
-    let enclave = enclave_of(m.plan(), pass.who());
-    let mut blocks = take_blocks(rt, m, pass, enclave);
-    let answer = change_in(rt, m, pass, enclave, &mut blocks, at, change);
-    m.give(pass, u32::from(enclave), Cell::Alloc(blocks));
-    answer
 }
 
 /// Frees or shares among the enclave's live blocks, whose turn the pass has.

@@ -9,14 +9,14 @@ use eleos_plot::{BlockList, OpRef};
 
 /// What becomes of a live block.
 #[derive(Clone, Copy, Debug, PartialEq, Eq)]
-pub(crate) enum Change {
+pub enum Change {
     Free,
     Share,
 }
 
 impl Change {
     /// The call.
-    pub fn call<'a>(self, at: Addr) -> OpRef<'a>
+    pub(crate) fn call<'a>(self, at: Addr) -> OpRef<'a>
         ensures call { op_of result ≡ call_of self at }
         ensures bytes { op_bytes result ≡ [] }
     {
@@ -27,7 +27,7 @@ impl Change {
     }
 
     /// What becomes of the block's sub-pages.
-    pub fn mark(self) -> Mark
+    pub(crate) fn mark(self) -> Mark
         ensures { result ≡ mark_of self }
     {
         match self {
@@ -37,7 +37,7 @@ impl Change {
     }
 
     /// Changes the block that starts at the address.
-    pub fn apply(self, blocks: &mut BlockList, enclave: u16, at: Addr)
+    pub(crate) fn apply(self, blocks: &mut BlockList, enclave: u16, at: Addr)
         ensures { blocks.new ≡ changed self enclave at blocks.old }
     {
         match self {

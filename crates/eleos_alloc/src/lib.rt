@@ -10,4 +10,5 @@ mod pages;
 mod refusals;
 mod runs;
 
-pub use calls::{alloc, free, share};
+pub use calls::{alloc, change_block, free, share};
+pub use changes::Change;

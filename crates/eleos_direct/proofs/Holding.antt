@@ -46,16 +46,6 @@ pub read_puts : (k : Plan) (x : Seals) (past : History) (who : ℕ) (at : Addr) 
     → puts_of k x (entry who (Op (Read at n)) blocks reply) past ≡ []
 read_puts k x past who at n blocks reply step = sym (puts_are k x past who (Op (Read at n)) blocks reply 0 step)
 
--- a write that is not accepted seals nothing
-pub refused_puts : (k : Plan) (x : Seals) (past : History) (who : ℕ) (at : Addr) (new : List ℕ) (blocks : List (List ℕ)) (reply : Reply) → is_accepted reply ≡ false → CoreStep k x past (entry who (Op (Write at new)) blocks reply)
-    → puts_of k x (entry who (Op (Write at new)) blocks reply) past ≡ []
-refused_puts k x past who at new blocks reply refused step =
-    let q = part_at k x past (page_cell k (page_at k at)) in
-    sym (puts_are k x past who (Op (Write at new)) blocks reply 0 step)
-    ∙ puts_from-none k x (stamp_of who (Op (Write at new)) blocks reply 0) (places_in k (Op (Write at new)) (frame_in q) (subs_in q)) (frame_in q) (page_at k at * per_page k) (subs_in q)
-    (λ s u. ap (λ v. (is_sub_of k (enclave_of k who) s && (v && (at.at / sub_bytes k (enclave_of k who) == s - first_sub k (enclave_of k who)))) && not (is_some (frame_in q))) refused
-    ∙ ap (λ v. v && not (is_some (frame_in q))) (and_false (is_sub_of k (enclave_of k who) s)))
-
 module _ {P : Type 0} (port : Ghosts P) (host : store.Ghosts P) where
   -- an access that is out of range
   pub outside : (s s' : PassState) (before tap : TapState P) (at : Addr) (op : Calls) → HasBegun port host before tap
@@ -69,10 +59,11 @@ module _ {P : Type 0} (port : Ghosts P) (host : store.Ghosts P) where
         spoiled = ap (option_map (Rattle.eleos_host.specs.Taps.block_of tap)) begun.ready.no_failure;
       }
 
-  -- an access on the page whose turn was taken
-  pub accessed_after : (s mid s' : PassState) (before tap tap' : TapState P) (at : Addr) (op : Calls) (reply : Reply) (cell word : ℕ) (value : Cell)
-      → s.hand.turns ≡ [] → TookTurn cell word s value mid → HasBegun port host before tap → AccessesHeld port host mid tap at cell op reply s' tap' → HasAccessed port host s before at op reply s' tap'
-  accessed_after s mid s' before tap tap' at op reply cell word value idle took begun a =
+  -- an access on the page whose turn was taken, by a pass that is as before the call
+  pub accessed_after : (s begun_by mid s' : PassState) (before tap tap' : TapState P) (at : Addr) (op : Calls) (reply : Reply) (cell word : ℕ) (value : Cell)
+      → begun_by ≡ s → s.hand.turns ≡ [] → TookTurn cell word begun_by value mid → HasBegun port host before tap → AccessesHeld port host mid tap at cell op reply s' tap' → HasAccessed port host s before at op reply s' tap'
+  accessed_after s begun_by mid s' before tap tap' at op reply cell word value same idle took_turn begun a =
+      let took : TookTurn cell word s value mid = subst (λ (y : PassState). TookTurn cell word y value mid) same took_turn in
       let home : mid.hand.home ≡ s.hand.home = took.goes.home in
       let number : mid.hand.number ≡ s.hand.number = took.goes.number in record {
         entered = entered_after s mid s' (access_stamp mid op (came tap') reply) (access_stamp s op (came tap') reply) (less_one cell mid.hand.turns) [] took.goes
@@ -86,12 +77,12 @@ module _ {P : Type 0} (port : Ghosts P) (host : store.Ghosts P) where
       }
 
   -- a try that found the page busy
-  pub found_busy : (z : Site) (s s' : PassState) (before tap : TapState P) (at : Addr) (n cell word : ℕ) → s.hand.home ≡ z → HasBegun port host before tap → IsPageOf (plan_at z) s.hand.number at n cell → IsBusy word
-      → s' ≡ record s { hand = refused_at s.hand cell word } → FoundBusy port host s before at n word s' tap
-  found_busy z s s' before tap at n cell word own begun page busy refused =
+  pub found_busy : (z : Site) (s begun_by s' : PassState) (before tap : TapState P) (at : Addr) (n cell word : ℕ) → begun_by ≡ s → s.hand.home ≡ z → HasBegun port host before tap → IsPageOf (plan_at z) s.hand.number at n cell → IsBusy word
+      → s' ≡ record begun_by { hand = refused_at begun_by.hand cell word } → FoundBusy port host s before at n word s' tap
+  found_busy z s begun_by s' before tap at n cell word same own begun page busy refused =
       let p : IsPageOf (plan_of s) s.hand.number at n cell = subst (λ (y : Site). IsPageOf (plan_at y) s.hand.number at n cell) (sym own) page in record {
         in_range = p.range;
         busy = busy;
-        refused = refused ∙ ap (λ (m : ℕ). record s { hand = refused_at s.hand m word }) p.cell_is;
+        refused = refused ∙ (ap (λ (y : PassState). record y { hand = refused_at y.hand cell word }) same ∙ ap (λ (m : ℕ). record s { hand = refused_at s.hand m word }) p.cell_is);
         crossed = none_since port host before tap [] [] refl refl begun;
       }

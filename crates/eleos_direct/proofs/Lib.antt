@@ -1,3 +1,7 @@
 pub mod Holding
+pub mod Refusing
 pub mod OnPages
 pub mod Complete
+pub mod Exchanged
+pub mod OwnCalls
+pub mod Desking

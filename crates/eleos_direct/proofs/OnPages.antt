@@ -36,13 +36,6 @@ use Rattle.eleos_pages.proofs.PageCells.{page_shows}
 use Rattle.eleos_pages.proofs.OnPages.{same_hand, seen_part}
 use Rattle.eleos_turn.specs.Numbers.{less_one}
 
--- the refusal of an access that is out of range was stamped
-pub refused_outside : (s s1 s2 : PassState) (op : Calls) (n : ℕ) → s.hand.turns ≡ [] → s1 ≡ record s { draft = access_stamp s op [] BadRange } → HasStamped s1 n s2 → Enters s (access_stamp s op [] BadRange) [] s2
-refused_outside s s1 s2 op n none is stamped =
-    let d : Stamp = access_stamp s op [] BadRange in
-    subst (λ held. Enters s d held s2) none
-    (same_hand s d d s.hand.turns s2 (entered (record s { draft = d }) s2 n refl (subst (λ (y : PassState). HasStamped y n s2) is stamped)))
-
 module _ (z : Site) (s : PassState) (at : Addr) (n cell : ℕ) (value : Cell) (page : Pages) (h : HoldsPage z s at n cell value) (is : value ≡ Page page) where
   module _ {P : Type 0} (port : Ghosts P) (host : store.Ghosts P) (tap tap' : TapState P) where
     -- a read that was stamped

@@ -1,7 +1,8 @@
 -- What a direct access does.
-use Rattle.std.specs.Prelude.{◌≡◌, ℕ, [], Result, Ok, Err}
+use Rattle.std.specs.Prelude.{◌≡◌, ℕ, [], length, Result, Ok, Err}
 use Rattle.eleos_base.specs.declared.memory.Addr.{Addr}
 use Rattle.eleos_base.specs.declared.memory.Op.{Op as Calls}
+use Rattle.eleos_base.specs.declared.memory.Op.TheVariants.{Read, Write}
 use Rattle.eleos_base.specs.declared.memory.Reply.{Reply}
 use Rattle.eleos_core.specs.Applying.{puts_of}
 use Rattle.eleos_core.specs.Parts.{page_cell}
@@ -19,6 +20,12 @@ use Rattle.eleos_direct.specs.declared.refusals.TryRefused.{TryRefused}
 use Rattle.eleos_direct.specs.declared.refusals.TryRefused.TheVariants.{Access, Busy}
 use Rattle.eleos_pages.specs.Entered.{Enters}
 use Rattle.eleos_pages.specs.Held.{access_stamp}
+
+-- the call reads or writes so many bytes from the address on
+abbrev pub IsAccessAt : Addr → ℕ → Calls → Type 0
+IsAccessAt at n (Read from m) = (from ≡ at) × (m ≡ n)
+IsAccessAt at n (Write from bytes) = (from ≡ at) × (length bytes ≡ n)
+IsAccessAt at n _ = ⊥
 
 module _ {P : Type 0} (port : Ghosts P) (host : store.Ghosts P) where
   -- the access is the pass's one new entry, with the block that came for it, if one did. The call began its tap once, so that what crossed

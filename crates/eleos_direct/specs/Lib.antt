@@ -1,3 +1,4 @@
 pub mod Held
 pub mod Accesses
 pub mod Laws
+pub mod Desks

@@ -1,23 +1,23 @@
 // Reads within one sub-page.
-ghost use Rattle.std.specs.Prelude.{◌≡◌, ◌<◌, ◌≤◌, ◌^◌, [], length, OnErr};
+ghost use Rattle.std.specs.Prelude.{◌≡◌, ◌<◌, ◌^◌, [], length, OnErr};
 ghost use Rattle.eleos_base.specs.declared.memory.Op.TheVariants as calls;
 ghost use Rattle.eleos_base.specs.declared.memory.Reply.TheVariants as replies;
-ghost use Rattle.eleos_core.specs.Accesses.{read_stamp};
 ghost use Rattle.eleos_direct.specs.Accesses.{HasAccessed, TriesAccess};
 ghost use Rattle.eleos_pages.specs.Entered.{CanCall, Enters};
 ghost use Rattle.eleos_direct.specs.Held.{AccessesHeld};
 ghost use Rattle.eleos_pages.specs.Held.{HoldsPage, IsOutside, access_stamp};
 ghost use Rattle.eleos_machine.specs.Machines.{plan_at};
-ghost use Rattle.eleos_pages.specs.Crossed.{IsReady, came, came_if};
+ghost use Rattle.eleos_pages.specs.Crossed.{IsReady};
 ghost use Rattle.eleos_base.specs.Answers.{read_reply};
+ghost use Rattle.eleos_plot.specs.declared.refs.OpOf.TheVariants as op_refs;
 
-use crate::begins::begin;
-use crate::refusals::{TryRefused, reply_to};
+use crate::access::{begin_access, draft, refuse};
+use crate::refusals::{TryRefused, read_reply};
 use eleos_base::{AccessRefused, Addr, Sealer};
 use eleos_host::{HostPort, Tap};
 use eleos_machine::{Machine, Pass};
-use eleos_pages::{Accessed, end, read_page};
-use eleos_plot::{Cell, EventRef, OpRef, ReplyRef};
+use eleos_pages::{end, read_page};
+use eleos_plot::{Cell, OpRef};
 use std::sync::Wait;
 
 /// Reads within one sub-page into the buffer, which a refusal leaves as it was. It waits for the
@@ -36,8 +36,7 @@ pub fn read<S: Sealer, P: HostPort, R: Wait>(
         (calls.Read at (length buf.old)) (read_reply result buf.new) pass.new tap.new }
     ensures refused { OnErr result (buf.new ≡ buf.old) }
 {
-    let Some(cell) = begin(m, pass, tap, at, buf.len()) else {
-        refuse_read(m, pass, at, buf.len() as u32);
+    let Some(cell) = begin_access(m, pass, tap, at, buf.len(), read_of(at, buf)) else {
         return Err(AccessRefused::BadRange);
     };
     let taken = m.take(rt, pass, cell, true);
@@ -58,8 +57,7 @@ pub fn try_read<S: Sealer, P: HostPort>(
         (calls.Read at (length buf.old)) (length buf.old) (replies.Text buf.new) result pass.new tap.new }
     ensures refused { OnErr result (buf.new ≡ buf.old) }
 {
-    let Some(cell) = begin(m, pass, tap, at, buf.len()) else {
-        refuse_read(m, pass, at, buf.len() as u32);
+    let Some(cell) = begin_access(m, pass, tap, at, buf.len(), read_of(at, buf)) else {
         return Err(TryRefused::Access(AccessRefused::BadRange));
     };
     let taken = match m.try_take(pass, cell, true) {
@@ -73,16 +71,14 @@ pub fn try_read<S: Sealer, P: HostPort>(
 }
 
 /// Stamps the refusal of a read of so many bytes that is out of range. It has no buffer, so the
-/// read
-/// may be longer than any.
+/// read may be longer than any.
 pub fn refuse_read<S: Sealer>(m: &Machine<S>, pass: &mut Pass, at: Addr, len: u32)
     requires can { CanCall m.now pass.old }
     requires outside { IsOutside (plan_at m.now) pass.old.hand.number at len }
     ensures { Enters pass.old
         (access_stamp pass.old (calls.Read at len) [] replies.BadRange) [] pass.new }
 {
-    pass.set(EventRef::Op(OpRef::Read { at, len }), ReplyRef::BadRange);
-    m.stamp(pass);
+    refuse(m, pass, at, len as usize, OpRef::Read { at, len });
 }
 
 /// Reads on the page whose turn was taken, and gives it back.
@@ -105,30 +101,19 @@ fn read_held<S: Sealer, P: HostPort>(
         unreachable!()
     };
     let accessed = read_page(m.plan(), m.sealer(), tap, &page, pass.who(), at, buf);
-    draft_read(pass, tap, at, buf, accessed);
+    let reply = read_reply(accessed.answer, buf);
+    draft(pass, tap, read_of(at, buf), reply, accessed.has_block);
     end(m, pass, cell, page);
     accessed.answer
 }
 
-/// Makes the draft the read with its answer.
-fn draft_read<P: HostPort>(pass: &mut Pass, tap: &Tap<P>, at: Addr, buf: &[u8], accessed: Accessed)
-    requires small { length buf.now ≤ 1024 }
-    requires block { came tap.now ≡ came_if accessed.has_block tap.now }
-    ensures { pass.new ≡ record pass.old {
-      draft = read_stamp pass.old.hand.number at
-          (length buf.now) (came tap.now) (read_reply accessed.answer buf.now);
-    } }
+/// A read of as many bytes as the buffer has.
+fn read_of<'a>(at: Addr, buf: &[u8]) -> OpRef<'a>
+    requires { length buf.now < 2 ^ 32 }
+    ensures { result ≡ op_refs.Read at (length buf.now) }
 {
-    let op = OpRef::Read {
+    OpRef::Read {
         at,
         len: buf.len() as u32,
-    };
-    let reply = match accessed.answer {
-        Ok(()) => ReplyRef::Text(buf),
-        Err(refused) => reply_to(refused),
-    };
-    pass.set(EventRef::Op(op), reply);
-    if accessed.has_block {
-        pass.add_block(tap.block(0));
     }
 }

@@ -1,9 +1,18 @@
 -- The blocks that came into the slots of a tap.
-use Rattle.std.proofs.Common.{◌≡◌, ◌≢◌, ℕ, List, [], ◌∷◌, true, Option, Some, None, option_map, if◌then◌else◌, refl, sym, ◌∙◌, ap, subst, arith, get_or-set_other}
+use Rattle.std.proofs.Common.{◌≡◌, ◌≢◌, ℕ, ◌<◌, List, [], ◌∷◌, length, true, false, Option, Some, None, is_some, option_map, slice_index_or, if◌then◌else◌, refl, sym, ◌∙◌, ap, subst, arith, get_or-set_other}
+use Rattle.eleos_base.specs.declared.memory.Addr.{Addr}
 use Rattle.eleos_base.specs.declared.memory.Reply.{Reply}
 use Rattle.eleos_base.specs.declared.memory.Reply.TheVariants.{Tampered}
+use Rattle.eleos_base.specs.declared.plan.Plan.{Plan}
+use Rattle.eleos_core.specs.declared.accesses.spots.Spot.{Spot}
+use Rattle.eleos_core.specs.declared.cells.page.Page.{Page}
+use Rattle.eleos_core.specs.declared.cells.sub_page.SubPage.{SubPage}
+use Rattle.eleos_core.specs.Accesses.{IsSpot, sub_for}
+use Rattle.eleos_core.specs.Cells.{part_of_page, part_with, subs_per_page}
 use Rattle.eleos_core.specs.Parts.{SubPart}
 use Rattle.eleos_core.specs.Texts.{came_for}
+use Rattle.eleos_core.proofs.Machines.{none_of}
+use Rattle.eleos_core.proofs.Reading.{came-found, sealed-found}
 use Rattle.eleos_host.specs.declared.port.HostPort.{Ghosts}
 use Rattle.eleos_host.specs.declared.port.HostStore as store
 use Rattle.eleos_host.specs.declared.slot.SlotState.{SlotState}
@@ -44,6 +53,27 @@ module _ {P : Type 0} where
   -- before anything came
   pub came-idle : (tap : TapState P) → IsIdle tap 0 → came tap ≡ []
   came-idle tap idle = ap (λ s. came_as s (block_of tap 0)) idle
+
+-- the sub-page of an absent page that has the address, whose block came into the first slot if it lies sealed
+module _ (k : Plan) (at : Addr) (page : Page) (spot : Spot) (u : SubPage) (is : IsSpot k at spot) (whole : length page.subs.items ≡ subs_per_page) (absent : is_some page.present ≡ false)
+    (value : u ≡ slice_index_or page.subs.items spot.index u) {P : Type 0} (tap : TapState P) (fetched : came tap ≡ came_for (part_with u []) (block_of tap 0)) where
+  inside : spot.index < length page.subs.items
+  inside = let in_page = is.in_page in omega (arith, in_page, whole)
+
+  none : page.present ≡ None
+  none = none_of page.present absent
+
+  -- the access takes the block that came
+  pub takes_came : (block : List ℕ) → block ≡ block_of tap 0 → came_for (sub_for k at (part_of_page page)) block ≡ came tap
+  takes_came block same = came-found k at page spot u is inside none value block ∙ (ap (came_for (part_with u [])) same ∙ sym fetched)
+
+  -- which lies in its slot as it came, where the sub-page lies sealed
+  pub lies_as_it_came : (sub_for k at (part_of_page page)).is_sealed ≡ true → IsAsItCame tap 0
+  lies_as_it_came sealed = as_it_came tap 0 (part_with u []) fetched (sym (sealed-found k at page spot u is inside none value) ∙ sealed)
+
+  -- and where it does not pass the tap names it
+  pub names_came : (s : ℕ) (reply : Reply) → (sub_for k at (part_of_page page)).is_sealed ≡ true → reply ≡ Tampered s → failed_block (with_failed tap 0) ≡ spoiled_by reply (came tap)
+  names_came s reply sealed says = names-spoiled tap (part_with u []) s reply fetched (sym (sealed-found k at page spot u is inside none value) ∙ sealed) says
 
 -- a store that takes no block stays
 same_store : (o : Option Store) → o ≡ option_map (λ s. with_puts s []) o

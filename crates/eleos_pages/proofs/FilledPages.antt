@@ -1,5 +1,5 @@
 -- A page that a pass puts into a frame: the stamp may be made, and what it leaves.
-use Rattle.std.proofs.Common.{◌≡◌, inl, inr, ℕ, ◌+◌, ◌*◌, ◌<◌, List, [], length, Bool, Option, Some, None, if◌then◌else◌, refl, sym, ◌∙◌, ap, subst, arith, eq-eqb}
+use Rattle.std.proofs.Common.{◌≡◌, inl, inr, ℕ, ◌+◌, ◌*◌, ◌<◌, ◌≤◌, List, [], length, Bool, Option, Some, None, if◌then◌else◌, refl, sym, ◌∙◌, ap, subst, arith, eq-eqb}
 use Rattle.eleos_base.specs.declared.memory.Reply.TheVariants.{Done}
 use Rattle.eleos_base.specs.declared.plan.Plan.{Plan}
 use Rattle.eleos_base.specs.Places.{all_pages, per_page}
@@ -20,6 +20,7 @@ use Rattle.eleos_core.specs.Texts.{IsSpoiledAt}
 use Rattle.eleos_core.proofs.CellNumbers.{page_is, sealed_are}
 use Rattle.eleos_host.specs.declared.port.HostPort.{Ghosts}
 use Rattle.eleos_host.specs.declared.port.HostStore as store
+use Rattle.eleos_host.specs.declared.slot.TheConstants.{SLOTS}
 use Rattle.eleos_host.specs.Taps.{TapState, IsAsItCame, failed_block}
 use Rattle.eleos_machine.specs.declared.holding.FreeFrame.{FreeFrame}
 use Rattle.eleos_machine.specs.declared.holding.HeldPage.{HeldPage}
@@ -169,6 +170,7 @@ module _ (s : PassState) (held : HeldPage) (free : FreeFrame) (page : Pages) (fr
         page_is = refl;
         has = has_page given law' (Page page') k p home_is has.page.number (has_less fc c s'.hand.turns (subst (Has c) (sym (turns_stay drafted s' n h)) has.page.turn) (cells_differ k p f has.page.number)) page_right;
         in_frame = subst (λ (q : Plan). frame_in (part_seen given (page_cell q p)) ≡ Some f) (sym home_is) in_frame;
+        made = page_after;
         parts = λ a turn not_page not_frame. other_stays drafted s' n h a c fc refl turn not_page not_frame;
         lawful = law';
       }
@@ -196,12 +198,12 @@ module _ (s : PassState) (held : HeldPage) (free : FreeFrame) (page : Pages) (fr
     }
 
     -- where the blocks up to one that did not pass crossed, the fill has failed at its sub-page
-    pub spoiled : {P : Type 0} (port : Ghosts P) (host : store.Ghosts P) (before mid tap : TapState P) (count sub : ℕ) → HasBegun port host before mid
+    pub spoiled : {P : Type 0} (port : Ghosts P) (host : store.Ghosts P) (before mid tap : TapState P) (count sub : ℕ) → count ≤ SLOTS → HasBegun port host before mid
         → Crosses port host mid tap (each_at (sealed_places p (part_of_page page)) (blocks_below count tap)) [] → IsSpoiledAt k x p (part_of_page page) (blocks_below count tap) sub
         → ((slot : ℕ) → slot < count → IsAsItCame tap slot) → failed_block tap ≡ last_of (blocks_below count tap)
-        → HasSpoiled port host s before held free (record { page = p; cell = Page page' }) (record { frame = f; cell = Frame frame' }) sub s tap
-    spoiled port host before mid tap count sub begun crossed spoiled_is slots failed = record {
-      count = count;
+        → HasSpoiled port host s before held free (record { page = p; cell = Page page' }) (record { frame = f; cell = Frame frame' }) sub count s tap
+    spoiled port host before mid tap count sub few begun crossed spoiled_is slots failed = record {
+      few = few;
       same = refl;
       spoiled = subst (λ (q : Part). IsSpoiledAt k x p q (blocks_below count tap) sub) page_seen spoiled_is;
       crossed = subst (λ (q : Part). HasCrossed port host before tap (each_at (sealed_places p q) (blocks_below count tap)) []) page_seen

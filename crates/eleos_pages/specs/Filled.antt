@@ -1,14 +1,15 @@
 -- A page that a pass put into a frame, or did not, since a block did not pass.
-use Rattle.std.specs.Prelude.{◌≡◌, ◌≢◌, ℕ, ◌<◌, [], Some, None}
+use Rattle.std.specs.Prelude.{◌≡◌, ◌≢◌, ℕ, ◌<◌, ◌≤◌, [], Some, None}
 use Rattle.eleos_base.specs.declared.memory.Reply.TheVariants.{Done as IsDone}
 use Rattle.eleos_base.specs.Ties.{Has}
 use Rattle.eleos_core.specs.declared.event.Event.TheVariants.{Fill}
 use Rattle.eleos_core.specs.Fills.{fill_stamp, sealed_places}
-use Rattle.eleos_core.specs.Parts.{Stamp, frame_cell, page_cell}
+use Rattle.eleos_core.specs.Parts.{Stamp, frame_cell, page_cell, part_after, the_page}
 use Rattle.eleos_core.specs.State.{places}
 use Rattle.eleos_core.specs.Texts.{IsSpoiledAt}
 use Rattle.eleos_host.specs.declared.port.HostPort.{Ghosts}
 use Rattle.eleos_host.specs.declared.port.HostStore as store
+use Rattle.eleos_host.specs.declared.slot.TheConstants.{SLOTS}
 use Rattle.eleos_host.specs.Taps.{TapState, IsAsItCame, failed_block}
 use Rattle.eleos_machine.specs.declared.holding.FreeFrame.{FreeFrame}
 use Rattle.eleos_machine.specs.declared.holding.HeldPage.{HeldPage}
@@ -39,13 +40,15 @@ module _ {P : Type 0} (port : Ghosts P) (host : store.Ghosts P) where
     pub page_is : filled.page ≡ page.page
     pub has : HasPage s' filled.page filled.cell
     pub in_frame : frame_seen s' filled.page ≡ Some frame.frame
+    -- what the entry makes of the page's cell
+    pub made : part_seen s' (page_cell (plan_of s) page.page) ≡ part_after (plan_of s) (seals_of s) (filled_by s page frame count tap) (the_page page.page) (part_seen s (page_cell (plan_of s) page.page))
     pub parts : (c : ℕ) → Has c s.hand.turns → c ≢ page_cell (plan_of s) page.page → c ≢ frame_cell (plan_of s) frame.frame → part_seen s' c ≡ part_seen s c
     pub lawful : IsLawful s'
 
   -- a block did not pass. The host gave the blocks of the page's sealed sub-pages up to that of this sub-page, which alone did not pass, each for its place;
   -- they are in the first slots as they came, and the tap names the last of them. Nothing was stamped, and page and frame are in hand as they were.
-  pub record HasSpoiled (s : PassState) (before : TapState P) (page : HeldPage) (frame : FreeFrame) (page' : HeldPage) (frame' : FreeFrame) (sub : ℕ) (s' : PassState) (tap : TapState P) : Type 0 where
-    pub count : ℕ
+  pub record HasSpoiled (s : PassState) (before : TapState P) (page : HeldPage) (frame : FreeFrame) (page' : HeldPage) (frame' : FreeFrame) (sub count : ℕ) (s' : PassState) (tap : TapState P) : Type 0 where
+    pub few : count ≤ SLOTS
     pub same : s' ≡ s
     pub spoiled : IsSpoiledAt (plan_of s) (seals_of s) page.page (part_seen s (page_cell (plan_of s) page.page)) (blocks_below count tap) sub
     pub crossed : HasCrossed port host before tap (each_at (sealed_places page.page (part_seen s (page_cell (plan_of s) page.page))) (blocks_below count tap)) []
@@ -59,4 +62,4 @@ module _ {P : Type 0} (port : Ghosts P) (host : store.Ghosts P) where
   -- what a fill does, by its answer
   abbrev pub Fills : PassState → TapState P → HeldPage → FreeFrame → Filled → PassState → TapState P → Type 0
   Fills s before page frame (Done filled) s' tap = HasFilled s before page frame filled s' tap
-  Fills s before page frame (Tampered page' frame' sub) s' tap = HasSpoiled s before page frame page' frame' sub s' tap
+  Fills s before page frame (Tampered page' frame' sub count) s' tap = HasSpoiled s before page frame page' frame' sub count s' tap

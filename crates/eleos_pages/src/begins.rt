@@ -4,7 +4,7 @@ ghost use Rattle.eleos_pages.specs.Crossed.{HasBegun, HasCome};
 use eleos_host::{HostPort, Tap};
 
 /// Begins the tap, into which nothing has come then.
-pub(crate) fn begin<P: HostPort>(tap: &mut Tap<P>)
+pub fn begin<P: HostPort>(tap: &mut Tap<P>)
     ensures begun { HasBegun P.HostPort.own P.HostStore.own tap.old tap.new }
     ensures none_came { HasCome 0 tap.new }
 {

@@ -25,12 +25,13 @@ pub enum Filled {
     Done {
         page: HeldPage,
     },
-    /// The block that came for this sub-page was not the one last sealed there: page and frame are
-    /// in hand as they were, and nothing was stamped.
+    /// The block that came for this sub-page, the last of so many, was not the one last sealed
+    /// there: page and frame are in hand as they were, and nothing was stamped.
     Tampered {
         page: HeldPage,
         frame: FreeFrame,
         sub: u32,
+        blocks: usize,
     },
 }
 
@@ -91,6 +92,7 @@ pub fn fill<S: Sealer, P: HostPort>(
                 cell: Cell::Frame(lent),
             },
             sub,
+            blocks: came.blocks,
         },
         None => {
             draft_fill(pass, tap, number, frame_number, came.blocks);
@@ -118,7 +120,7 @@ fn draft_fill<P: HostPort>(pass: &mut Pass, tap: &Tap<P>, page: u32, frame: u32,
 }
 
 /// Appends the blocks in the first slots to the draft, which has none.
-fn add_blocks<P: HostPort>(pass: &mut Pass, tap: &Tap<P>, count: usize)
+pub fn add_blocks<P: HostPort>(pass: &mut Pass, tap: &Tap<P>, count: usize)
     requires none { pass.old.draft.entry.blocks ≡ [] }
     requires few { count ≤ SLOTS }
     ensures { pass.new ≡ record pass.old {

@@ -2,23 +2,24 @@
 //! evicts of a pass. No call takes memory.
 #![tactic(auto)]
 
-mod accessed;
+mod access;
 mod begins;
 mod ends;
 mod evicting;
 mod evicts;
 mod filling;
 mod fills;
-mod reads;
+mod reading;
 mod sealing;
-mod writes;
+mod writing;
 
-pub use accessed::Accessed;
+pub use access::Accessed;
+pub use begins::begin;
 pub use ends::end;
 pub use evicting::evict;
 pub use evicts::{evict_bytes, evict_page};
-pub use filling::{Filled, fill};
+pub use filling::{Filled, add_blocks, fill};
 pub use fills::{Came, fill_bytes, fill_page};
-pub use reads::read_page;
+pub use reading::read_page;
 pub use sealing::{evict_sub, open_sub};
-pub use writes::write_page;
+pub use writing::write_page;

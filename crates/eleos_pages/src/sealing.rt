@@ -7,24 +7,18 @@ ghost use Rattle.eleos_core.specs.Cells.{part_with, sub_size};
 ghost use Rattle.eleos_core.specs.Evicts.{sealed_block, sealed_sub};
 ghost use Rattle.eleos_core.specs.Seals.{seals_by};
 ghost use Rattle.eleos_core.specs.Texts.{came_for};
-ghost use Rattle.eleos_pages.specs.Crossed.{Crosses, at_place, came_in, fetched_if, opened_by};
+ghost use Rattle.eleos_pages.specs.Crossed.{Crosses, at_place, came_in, opened_by};
 ghost use Rattle.eleos_base.specs.Lists.{last_of};
 ghost use Rattle.eleos_host.specs.declared.slot.TheConstants.{SLOTS};
 ghost use Rattle.eleos_host.specs.Taps.{IsIdle, block_of, failed_block, with_lent, with_port};
 
+use crate::access::fetch_for;
 use eleos_base::Sealer;
 use eleos_core::{SubPage, open_text, seal_dirty};
 use eleos_host::{HostPort, SLOTS, Tap};
 
-/// The slot into which the block of an access comes from the host.
-pub(crate) const COME: usize = 0;
-
-/// The slot from which the block of an access goes to the host.
-pub(crate) const GONE: usize = 1;
-
 /// Opens the sub-page's text: zeros where it is blank, else what the block opens to that the host
-/// gives
-/// into the slot. Answers whether that block passed. Where it did not, the tap names it.
+/// gives into the slot. Answers whether that block passed. Where it did not, the tap names it.
 pub fn open_sub<S: Sealer, P: HostPort>(
     sealer: &S,
     tap: &mut Tap<P>,
@@ -54,22 +48,6 @@ pub fn open_sub<S: Sealer, P: HostPort>(
     }
     tap.fail(slot);
     false
-}
-
-/// Lets the sub-page's block come into the slot, where it lies sealed.
-pub(crate) fn fetch_for<P: HostPort>(tap: &mut Tap<P>, sub: &SubPage, place: u32, slot: usize)
-    requires slot { slot < SLOTS }
-    requires idle { IsIdle tap.old slot }
-    ensures tap { tap.new
-        ≡ fetched_if (is_some sub.now.tag) slot tap.old tap.new.port (block_of tap.new slot) }
-    ensures block { came_in slot tap.new
-        ≡ came_for (part_with sub.now []) (block_of tap.new slot) }
-    ensures crossed { Crosses P.HostPort.own P.HostStore.own tap.old tap.new
-        (at_place place (came_in slot tap.new)) [] }
-{
-    if sub.tag.is_some() {
-        tap.fetch(place, slot);
-    }
 }
 
 /// Seals a sub-page that leaves its frame, in place, and hands the block to the host from the slot,

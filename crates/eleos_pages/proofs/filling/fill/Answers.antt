@@ -52,7 +52,7 @@ returns-in-Some g c =
     (subst (λ o. IfSome o (λ (_ : ℕ). c.fill_page-came.new.page ≡ c.in-Page.filled)) c.in-Some.is c.fill_page-came.ensures.page_kept)
     (subst (λ o. IfSome o (λ (_ : ℕ). part_of_frame c.fill_page-came.new.frame ≡ part_of_frame c.in-Frame.lent)) c.in-Some.is c.fill_page-came.ensures.frame_kept)
     (subst (λ o. IfSome o (λ (_ : ℕ). IsFree c.fill_page-came.new.frame.used)) c.in-Some.is c.fill_page-came.ensures.zero)
-    g.P.HostPort g.P.HostStore c.args.tap.now c.begin.new.tap c.fill_page-came.new.tap c.fill_page-came.result.blocks c.in-Some.sub c.begin.ensures.begun c.fill_page-came.ensures.crossed
+    g.P.HostPort g.P.HostStore c.args.tap.now c.begin.new.tap c.fill_page-came.new.tap c.fill_page-came.result.blocks c.in-Some.sub c.fill_page-came.ensures.few c.begin.ensures.begun c.fill_page-came.ensures.crossed
     (subst (λ (x : Seals). IsSpoiledAt (plan_of s) x c.args.page.page (part_of_page c.in-Page.filled) came c.in-Some.sub) seals
     (subst (λ o. IfSome o (λ (place : ℕ). (k : Plan) → IsSpoiledAt k (seals_by (g.S.Sealer.key c.sealer.result.now)) c.args.page.page (part_of_page c.in-Page.filled) came place)) c.in-Some.is c.fill_page-came.ensures.spoiled (plan_of s)))
     c.fill_page-came.ensures.slots

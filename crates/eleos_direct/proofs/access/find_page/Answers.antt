@@ -6,7 +6,7 @@ use Rattle.eleos_core.specs.Parts.{page_cell}
 use Rattle.eleos_machine.specs.Machines.{plan_at}
 use Rattle.eleos_core.specs.Accesses.{IsAccess}
 use Rattle.eleos_pages.proofs.PageCells.{page_of_is, spot_within}
-use Rattle.eleos_direct.proofs.begins.begin.Goals as goal
+use Rattle.eleos_direct.proofs.access.find_page.Goals as goal
 
 pub page_cell-requires-clause-page : goal.page_cell-requires-clause-page
 page_cell-requires-clause-page g c =
@@ -15,8 +15,8 @@ page_cell-requires-clause-page g c =
     (subst (λ (k : Plan). IsAccess k c.args.pass.now.hand.number c.args.at c.args.len) plan
     (subst (λ (who : ℕ). IsAccess c.plan-plan.result.now who c.args.at c.args.len) c.who.ensures (sym c.is_access.ensures ∙ c.if-not-is_access.false))) (subst (λ (k : Plan). IsSpot k c.args.at c.spot_of.result) plan c.spot_of.ensures))
 
-pub returns-clause-found : goal.returns-clause-found
-returns-clause-found g c =
+pub returns : goal.returns
+returns g c =
     let plan = c.plan-plan.ensures.plan in
     page_of_is (plan_at c.args.m.now) c.args.pass.now.hand.number c.args.at c.args.len _ c.spot_of.result c.plan-plan.ensures.made.made.good c.requires.can.caller
     (subst (λ (k : Plan). IsAccess k c.args.pass.now.hand.number c.args.at c.args.len) plan
