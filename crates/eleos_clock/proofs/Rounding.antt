@@ -5,6 +5,7 @@ use Rattle.eleos_core.specs.Parts.{frame_cell, frame_in, page_cell}
 use Rattle.eleos_base.specs.Places.{all_frames, all_pages}
 use Rattle.eleos_turn.specs.Numbers.{times}
 use Rattle.eleos_machine.specs.declared.holding.ClockTurn.{ClockTurn}
+use Rattle.eleos_machine.specs.Holding.{HasClock}
 use Rattle.eleos_machine.specs.Machines.{Site, plan_at}
 use Rattle.eleos_machine.specs.Notes.{cleared, free_notes, is_noted_free}
 use Rattle.eleos_machine.specs.Passes.{IsLawful, PassState, part_seen, plan_of}
@@ -60,6 +61,14 @@ found_on s s' s'' f free (Sole found) law did turns h = (
     turns = h.1.turns ∙ (λ i. page_cell (plan_at (did.goes.home i)) found.page ∷ frame_cell (plan_at (did.goes.home i)) found.frame ∷ turns i);
   },
 )
+
+-- an enclave has few frames
+pub few_at : (s : PassState) → IsLawful s → (e : ℕ) (clock : ClockTurn) → HasClock s (Some e) clock → length clock.clock ≤ 512
+few_at s law e clock has =
+    let good = law.machine.made.good in
+    let all = pigeons (all_frames (plan_of s)) clock.clock (λ g. once_in g clock.clock (list_distinct s law e clock has))
+    (λ f h. let at = place_of f clock.clock (has_into f clock.clock h) in list_within s law e clock has f (at.0, at.1, sym at.2)) in
+    let same = sum-map (λ (made : EnclavePlan). made.frames) (plan_of s).enclaves in let most = good.frames in omega (arith, all, same, most)
 
 module _ (z : Site) (s : PassState) (clock : ClockTurn) (free all : Bool) (may : MaySearch z s clock) (law : IsLawful s) where
   -- a round begins
@@ -129,10 +138,6 @@ module _ (z : Site) (s : PassState) (clock : ClockTurn) (free all : Bool) (may :
       })
       (Rattle.std.proofs.lemmas.Bool.cases_lt 0 (length clock.clock))
 
-  -- a list has few frames
+  -- the list has few frames
   pub few : length clock.clock ≤ 512
-  few =
-      let good = law.machine.made.good in
-      let all = pigeons (all_frames (plan_of s)) clock.clock (λ g. once_in g clock.clock (list_distinct s law may.enclave clock may.turn))
-      (λ f has. let at = place_of f clock.clock (has_into f clock.clock has) in list_within s law may.enclave clock may.turn f (at.0, at.1, sym at.2)) in
-      let same = sum-map (λ (made : EnclavePlan). made.frames) (plan_of s).enclaves in let most = good.frames in omega (arith, all, same, most)
+  few = few_at s law may.enclave clock may.turn

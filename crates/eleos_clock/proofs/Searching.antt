@@ -1,5 +1,5 @@
 -- Tries of frames one after another, and a whole search.
-use Rattle.std.proofs.Common.{◌≡◌, inl, inr, ℕ, ◌<◌, ◌≤◌, ◌∷◌, Bool, true, Option, Some, None, cond, refl, sym, ◌∙◌, ap, subst, slice_index}
+use Rattle.std.proofs.Common.{◌≡◌, inl, inr, ℕ, ◌<◌, ◌≤◌, ◌∷◌, Bool, true, false, Option, Some, None, cond, refl, sym, ◌∙◌, ap, subst, slice_index}
 use Rattle.std.proofs.lemmas.Bool.{eq-eqb}
 use Rattle.eleos_base.specs.Ties.{Has}
 use Rattle.eleos_core.specs.Parts.{frame_cell}
@@ -13,11 +13,12 @@ use Rattle.eleos_machine.specs.declared.holding.ClockTurn.{ClockTurn}
 use Rattle.eleos_machine.specs.declared.holding.FreeFrame.{FreeFrame}
 use Rattle.eleos_machine.specs.Holding.{HasFrame, holder_seen}
 use Rattle.eleos_machine.specs.Machines.{Site, plan_at}
+use Rattle.eleos_machine.specs.Notes.{Sweep}
 use Rattle.eleos_machine.specs.Passes.{IsLawful, PassState, TookTurn, gave, part_seen, plan_of}
-use Rattle.eleos_clock.specs.Answered.{FoundFree, KeepsFree, Rounds, IsFreeCell, TriedFree}
+use Rattle.eleos_clock.specs.Answered.{FirstFree, FoundFree, KeepsFree, Rounds, IsFreeCell, TriedFree}
 use Rattle.eleos_clock.specs.Searches.{MaySearch, Searches}
 use Rattle.eleos_clock.specs.declared.rounds.FoundAt.{FoundAt}
-use Rattle.eleos_clock.proofs.Noted.{keeps_on}
+use Rattle.eleos_clock.proofs.Noted.{keeps_on, keeps_same}
 use Rattle.eleos_clock.proofs.Rounding.{found_on}
 use Rattle.eleos_clock.proofs.Seen.{fits_frame, holder_by_cell}
 use Rattle.eleos_clock.proofs.Steps.{is_taken as taken_is, other, searches_gave, searches_other, searches_then, searches_took, taken}
@@ -102,19 +103,30 @@ free_on s s' s'' found law did turns h = record {
   turns = h.turns ∙ (λ i. frame_cell (plan_at (did.goes.home i)) found.frame ∷ turns i);
 }
 
--- rounds one after another
-pub round_on : (z : Site) (s s' s'' : PassState) (clock : ClockTurn) (free : Bool) (at : Option FoundAt) → IsLawful s → Searches s s' → s'.hand.turns ≡ s.hand.turns → KeepsFree s.sweep.words s'.sweep.words → Rounds s' clock free true at s'' → Rounds s clock free true at s''
-round_on z s s' s'' clock free None law did turns kept h = record {
+-- a round after a part that left the turns as they were
+pub round_on : (s s' s'' : PassState) (clock : ClockTurn) (free all : Bool) (at : Option FoundAt) → IsLawful s → Searches s s' → s'.hand.turns ≡ s.hand.turns → KeepsFree s.sweep.words s'.sweep.words → Rounds s' clock free all at s'' → Rounds s clock free all at s''
+round_on s s' s'' clock free all None law did turns kept h = record {
   searches = searches_then s s' s'' law (λ d had. subst (Has d) (sym turns) had) did h.searches;
   turns = h.turns ∙ turns;
   notes = h.notes;
   keeps = keeps_on s.sweep.words s'.sweep.words s''.sweep.words kept h.keeps;
   noted = h.noted;
 }
-round_on z s s' s'' clock free (Some at) law did turns kept h = record {
+round_on s s' s'' clock free all (Some at) law did turns kept h = record {
   inside = h.inside;
   found = found_on s s' s'' (slice_index clock.clock at.place) free at.found law did turns h.found;
   notes = h.notes;
   keeps = keeps_on s.sweep.words s'.sweep.words s''.sweep.words kept h.keeps;
   fresh = h.fresh;
 }
+
+-- a round after tries that found nothing
+pub idles_round : (s s' s'' : PassState) (clock : ClockTurn) (free all : Bool) (at : Option FoundAt) → IsLawful s → FirstFree s clock free None s' → Rounds s' clock free all at s'' → Rounds s clock free all at s''
+idles_round s s' s'' clock free all at law none h =
+    round_on s s' s'' clock free all at law none.0 none.1 (subst (λ (w : Sweep). KeepsFree s.sweep.words w.words) (sym none.2) (keeps_same s.sweep.words)) h
+
+-- two rounds after such tries, of which the first found nothing
+pub idles_rounds : (s s' s'' t : PassState) (clock : ClockTurn) (free : Bool) (at : Option FoundAt) → IsLawful s → FirstFree s clock free None s' → Rounds s' clock free false None s'' → Rounds s'' clock free true at t → Rounds s clock free true at t
+idles_rounds s s' s'' t clock free at law none first h =
+    let p : Rounds s clock free false None s'' = idles_round s s' s'' clock free false None law none first in
+    round_on s s'' t clock free true at law p.searches p.turns p.keeps h

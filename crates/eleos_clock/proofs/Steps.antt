@@ -38,6 +38,7 @@ searches_same s = record {
   links = λ c. refl;
   parts = λ c has. refl;
   clean = λ c has turn. has;
+  pointers = refl;
   since_stamp = refl;
   since_survey = refl;
 }
@@ -55,6 +56,7 @@ searches_other s words h = record {
   links = λ c. refl;
   parts = λ c has. refl;
   clean = λ c has turn. has;
+  pointers = refl;
   since_stamp = refl;
   since_survey = refl;
 }
@@ -68,6 +70,7 @@ searches_gave s c once = record {
   links = λ d. refl;
   parts = λ d has. refl;
   clean = λ d has turn. has_without c d s.hand.clean has (less_has c d s.hand.turns once turn).1;
+  pointers = refl;
   since_stamp = refl;
   since_survey = refl;
 }
@@ -81,6 +84,7 @@ searches_took c n s x s' made took = record {
   links = λ d. ap (λ (h : HandState Stamp Part Ground). links_on core_terms h d) took.took.now ∙ links_more core_terms s.hand took.took.more s.hand.turns made took.took.others d;
   parts = took.held;
   clean = λ d has turn. subst (λ (h : HandState Stamp Part Ground). Has d h.clean) (sym took.took.now) (more_clean (pins_in n == 0) d has);
+  pointers = ap (λ (y : PassState). y.pointers) took.rest;
   since_stamp = ap (λ (y : PassState). y.sweep.since_stamp) took.rest;
   since_survey = ap (λ (y : PassState). y.sweep.since_survey) took.rest;
 } where
@@ -97,6 +101,7 @@ searches_then a b c law keeps first next = record {
   links = λ d. next.links d ∙ first.links d;
   parts = λ d has. next.parts d (keeps d has) ∙ first.parts d has;
   clean = λ d has turn. let held = keeps d (law.hand.clean d has) in next.clean d (first.clean d has held) turn;
+  pointers = next.pointers ∙ first.pointers;
   since_stamp = next.since_stamp ∙ first.since_stamp;
   since_survey = next.since_survey ∙ first.since_survey;
 }

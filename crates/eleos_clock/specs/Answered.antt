@@ -4,14 +4,14 @@ use Rattle.eleos_base.specs.declared.memory.Looked.{Looked}
 use Rattle.eleos_core.specs.Cells.{holder_of_use}
 use Rattle.eleos_plot.specs.declared.cell.Cell.{Cell}
 use Rattle.eleos_plot.specs.declared.cell.Cell.TheVariants.{Frame}
-use Rattle.eleos_core.specs.Parts.{frame_cell, page_cell}
+use Rattle.eleos_core.specs.Parts.{frame_cell, owner_in, page_cell}
 use Rattle.eleos_core.specs.Sweeps.{frames_in}
 use Rattle.eleos_turn.specs.Numbers.{less_one, times}
 use Rattle.eleos_machine.specs.declared.holding.FreeFrame.{FreeFrame}
 use Rattle.eleos_machine.specs.declared.holding.SolePage.{SolePage}
 use Rattle.eleos_machine.specs.Holding.{HasFree, HasSole}
 use Rattle.eleos_machine.specs.Notes.{free_notes, is_noted_free}
-use Rattle.eleos_machine.specs.Passes.{PassState, plan_of}
+use Rattle.eleos_machine.specs.Passes.{PassState, part_seen, plan_of}
 use Rattle.eleos_clock.specs.declared.found.Found.{Found}
 use Rattle.eleos_clock.specs.declared.found.Found.TheVariants.{Free, Sole}
 use Rattle.eleos_clock.specs.declared.found.NoVictim.{NoVictim}
@@ -110,10 +110,10 @@ abbrev pub TriedFree : PassState → ℕ → Option FreeFrame → PassState → 
 TriedFree s f None s' = Searches s s' × (s'.hand.turns ≡ s.hand.turns) × (s'.sweep ≡ s.sweep)
 TriedFree s f (Some free) s' = (free.frame ≡ f) × FoundFree s free s' × (s'.sweep.words ≡ s.sweep.words)
 
--- tries of all frames, one after another
-abbrev pub FirstFree : PassState → ClockTurn → Option FoundAt → PassState → Type 0
-FirstFree s clock None s' = Searches s s' × (s'.hand.turns ≡ s.hand.turns) × (s'.sweep ≡ s.sweep)
-FirstFree s clock (Some at) s' = RoundFound s clock true at s'
+-- tries of all frames, one after another, where a free one is wanted
+abbrev pub FirstFree : PassState → ClockTurn → Bool → Option FoundAt → PassState → Type 0
+FirstFree s clock free None s' = Searches s s' × (s'.hand.turns ≡ s.hand.turns) × (s'.sweep ≡ s.sweep)
+FirstFree s clock free (Some at) s' = RoundFound s clock free at s'
 
 -- the hand after this was found at the place: a page moves it behind that
 abbrev pub hand_after : ℕ → ℕ → ℕ → Found → ℕ
@@ -143,6 +143,10 @@ pub record FoundNone (s : PassState) (list : List ℕ) (hand : ℕ) (free : Bool
 abbrev pub frame_of : Found → ℕ
 frame_of (Free found) = found.frame
 frame_of (Sole found) = found.frame
+
+-- the frame that was found is owned by the enclave, as the pass has seen
+abbrev pub IsOwned : ℕ → Found → PassState → Type 0
+IsOwned e found s' = owner_in (part_seen s' (frame_cell (plan_of s') (frame_of found))) ≡ Some e
 
 -- what the search came to: a find at some place of the list, or none in the whole list
 abbrev pub Answers : PassState → List ℕ → ℕ → Bool → Result Found NoVictim → PassState → ℕ → Type 0

@@ -11,7 +11,7 @@ use Rattle.eleos_machine.specs.Holding.{HasClock, frame_seen}
 use Rattle.eleos_machine.specs.Machines.{Site}
 use Rattle.eleos_machine.specs.Passes.{PassState, part_seen, plan_of}
 
--- the pass made no entry, and has the same draft, pins and links; of its notes only the words may differ; the cells whose turns it had are as they were
+-- the pass made no entry, and has the same draft, pins, links and pointers; of its notes only the words may differ; the cells whose turns it had are as they were
 pub record Searches (s s' : PassState) : Type 0 where
   pub goes : Goes core_terms s.hand s'.hand []
   pub draft : s'.draft ≡ s.draft
@@ -19,6 +19,7 @@ pub record Searches (s s' : PassState) : Type 0 where
   pub links : (c : ℕ) → links_on core_terms s'.hand c ≡ links_on core_terms s.hand c
   pub parts : (c : ℕ) → Has c s.hand.turns → part_seen s' c ≡ part_seen s c
   pub clean : (c : ℕ) → Has c s.hand.clean → Has c s'.hand.turns → Has c s'.hand.clean
+  pub pointers : s'.pointers ≡ s.pointers
   pub since_stamp : s'.sweep.since_stamp ≡ s.sweep.since_stamp
   pub since_survey : s'.sweep.since_survey ≡ s.sweep.since_survey
 

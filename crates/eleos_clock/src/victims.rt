@@ -1,13 +1,16 @@
 // The search for a frame.
-ghost use Rattle.std.specs.Prelude.{◌≡◌, ◌↔◌, ◌<◌, ◌≤◌, length, IsTrue, None, true};
+ghost use Rattle.std.specs.Prelude.{◌≡◌, ◌↔◌, ◌<◌, ◌≤◌, ℕ, length, IfOk, IsTrue, None, Some};
+ghost use Rattle.std.specs.Prelude.{true};
 ghost use Rattle.eleos_core.specs.Cells.{holder_of_use};
 ghost use Rattle.eleos_base.specs.Places.{all_frames};
 ghost use Rattle.eleos_clock.specs.Lists.{AreNotes, next_place};
 ghost use Rattle.eleos_clock.specs.Searches.{MaySearch};
 ghost use Rattle.eleos_clock.specs.Answered.{Answers, FirstFree, IsFreeCell, Rounds, TriedFree};
-ghost use Rattle.eleos_clock.specs.Answered.{hand_after};
+ghost use Rattle.eleos_clock.specs.Answered.{IsOwned, hand_after};
+ghost use Rattle.eleos_machine.specs.Holding.{HasClock};
 ghost use Rattle.eleos_machine.specs.Machines.{plan_at};
 ghost use Rattle.eleos_machine.specs.Notes.{free_notes};
+ghost use Rattle.eleos_machine.specs.Passes.{IsLawful};
 
 use crate::found::{Found, NoVictim};
 use crate::rounds::{FoundAt, count_of, frame_in, round};
@@ -17,8 +20,7 @@ use eleos_machine::{ClockTurn, FreeFrame, Machine, Pass};
 use eleos_plot::Cell;
 
 /// Finds a frame among those of the clock's enclave: a free one, where `free`, or one with a page
-/// that
-/// nobody links. Never waits. Where it finds none, the pass's notes have each frame once.
+/// that nobody links. Never waits. Where it finds none, the pass's notes have each frame once.
 pub fn victim<S: Sealer>(
     m: &Machine<S>,
     pass: &mut Pass,
@@ -30,15 +32,25 @@ pub fn victim<S: Sealer>(
     ensures answers { Answers pass.old clock.old.clock clock.old.hand free result
         pass.new clock.new.hand }
     ensures clock { clock.new ≡ record clock.old { hand = clock.new.hand } }
+
+    // What was found is the enclave's, and the turn of its clock cell is still in hand.
+    ensures owned { (e : ℕ) → HasClock pass.old (Some e) clock.old
+        → IfOk result (λ found. IsOwned e found pass.new) }
+    ensures held { (e : ℕ) → HasClock pass.old (Some e) clock.old
+        → HasClock pass.new (Some e) clock.new }
+    ensures lawful { IsLawful pass.new }
 {
+    let found = search(m, pass, clock, free);
+    // What it has seen is a legal history.
     let _ = pass.left();
-    match search(m, pass, clock, free) {
+    match found {
         Some(at) => Ok(moved(clock, at)),
         None => Err(NoVictim),
     }
 }
 
-/// The search, and where it found a frame.
+/// The search, and where it found a frame. Of its two rounds the first passes pages that were
+/// touched.
 fn search<S: Sealer>(
     m: &Machine<S>,
     pass: &mut Pass,
@@ -50,27 +62,9 @@ fn search<S: Sealer>(
     ensures { Rounds pass.old clock.now free true result pass.new }
 {
     let _ = pass.left();
-    if !free {
-        return two_rounds(m, pass, clock, free);
-    }
-    if let Some(at) = first_free(m, pass, clock) {
+    if let Some(at) = first_free(m, pass, clock, free) {
         return Some(at);
     }
-    two_rounds(m, pass, clock, free)
-}
-
-/// Two rounds, the first of which passes pages that were touched.
-fn two_rounds<S: Sealer>(
-    m: &Machine<S>,
-    pass: &mut Pass,
-    clock: &ClockTurn,
-    free: bool,
-) -> Option<FoundAt>
-    requires may { MaySearch m.now pass.old clock.now }
-    requires notes { AreNotes clock.now.clock free (free_notes pass.old.sweep.words) }
-    ensures { Rounds pass.old clock.now free true result pass.new }
-{
-    let _ = pass.left();
     if let Some(at) = round(m, pass, clock, free, false) {
         return Some(at);
     }
@@ -105,13 +99,21 @@ fn next_place(place: usize, count: usize) -> u32
     }
 }
 
-/// The first frame of the list whose cell can be taken and is free.
-fn first_free<S: Sealer>(m: &Machine<S>, pass: &mut Pass, clock: &ClockTurn) -> Option<FoundAt>
+/// The first frame of the list whose cell can be taken and is free, where one is wanted.
+fn first_free<S: Sealer>(
+    m: &Machine<S>,
+    pass: &mut Pass,
+    clock: &ClockTurn,
+    free: bool,
+) -> Option<FoundAt>
     requires may { MaySearch m.now pass.old clock.now }
-    requires notes { AreNotes clock.now.clock true (free_notes pass.old.sweep.words) }
-    ensures { FirstFree pass.old clock.now result pass.new }
+    requires notes { AreNotes clock.now.clock free (free_notes pass.old.sweep.words) }
+    ensures { FirstFree pass.old clock.now free result pass.new }
 {
     let _ = pass.left();
+    if !free {
+        return None;
+    }
     for place in 0..count_of(clock) {
         if let Some(found) = try_free(m, pass, clock, frame_in(clock, place)) {
             return Some(FoundAt {

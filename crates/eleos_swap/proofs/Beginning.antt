@@ -57,4 +57,5 @@ module _ (z : Site) (e : ℕ) (s : PassState) (can : CanSwap z e s) where
       since_survey = notes.searches.since_survey ∙ took.searches.since_survey;
       pins = notes.searches.pins ∙ took.searches.pins;
       links = λ c. notes.searches.links c ∙ took.searches.links c;
+      pointers = notes.searches.pointers ∙ took.searches.pointers;
     }

@@ -23,8 +23,9 @@ use Rattle.eleos_turn.proofs.Clients.{goes_trans}
 use Rattle.eleos_machine.specs.declared.holding.ClockTurn.{ClockTurn}
 use Rattle.eleos_machine.specs.declared.holding.FreeFrame.{FreeFrame}
 use Rattle.eleos_machine.specs.declared.holding.SolePage.{SolePage}
+use Rattle.eleos_machine.specs.Holding.{HasSole}
 use Rattle.eleos_machine.specs.Machines.{Site, plan_at, seals_at}
-use Rattle.eleos_machine.specs.Notes.{cleared, free_notes, is_noted_free}
+use Rattle.eleos_machine.specs.Notes.{Sweep, cleared, free_notes, is_noted_free}
 use Rattle.eleos_machine.specs.Passes.{IsLawful, PassState, last_stamp, part_seen, plan_of, seen}
 use Rattle.eleos_clock.specs.declared.found.Found.TheVariants.{Sole}
 use Rattle.eleos_clock.specs.declared.found.Found.{Found}
@@ -43,6 +44,16 @@ use Rattle.eleos_swap.specs.Evicts.{EvictedNone, EvictedOne}
 use Rattle.eleos_swap.specs.Making.{HandMoves, IsEvict, Makes}
 use Rattle.eleos_swap.proofs.Notes.{all_kept, keeps_noted, kept_zero, noted_append, noted_kept, noted_last}
 use Rattle.eleos_swap.proofs.Steps.{makes_none, seen_on}
+
+-- what a search noted says nothing of a page in hand
+pub sole_on : (s : PassState) (w : Sweep) (sole : SolePage) → HasSole s sole → HasSole (record s { sweep = w }) sole
+sole_on s w sole has = record {
+  page = record { number = has.page.number; turn = has.page.turn; value = has.page.value; fits = has.page.fits };
+  frame = record { number = has.frame.number; turn = has.frame.turn; value = has.frame.value; fits = has.frame.fits };
+  in_frame = has.in_frame;
+  clean = has.clean;
+  no_link = has.no_link;
+}
 
 -- notes that are all of free frames let a search begin
 as_notes : (ws : List Looked) → AllByRecursion (λ (seen : Looked). seen.word ≡ 0) ws → AllByRecursion Rattle.eleos_clock.specs.Lists.IsNote ws
@@ -170,6 +181,7 @@ module _ (z : Site) (s : PassState) (clock : ClockTurn) (may : MaySearch z s clo
         turns = turns₄;
         pins = n.searches.pins ∙ (h.entered.pins ∙ found.there.1.searches.pins);
         links = λ c. n.searches.links c ∙ (h.entered.links c ∙ found.there.1.searches.links c);
+        pointers = n.searches.pointers ∙ (ap (λ (y : PassState). y.pointers) h.entered.rest ∙ found.there.1.searches.pointers);
         parts = λ c had. n.searches.parts c (subst (Has c) (sym turns₃) (inr had))
             ∙ (h.parts c (subst (Has c) (sym found.there.1.turns) (inr (inr had))) (no_page c had) (no_frame c had)
             ∙ found.there.1.searches.parts c had);

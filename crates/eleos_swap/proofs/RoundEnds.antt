@@ -68,6 +68,7 @@ module _ (s : PassState) (e : ℕ) (clock : ClockTurn) (low : ℕ) (may : MayEnd
         turns = ap (less_one clock.number) did_at.turns;
         pins = did_at.pins;
         links = did_at.links;
+        pointers = did_at.pointers;
       }
 
       -- and what is left of the pass then

@@ -26,7 +26,7 @@ use Rattle.eleos_swap.specs.Making.{AreEvicts, HandMoves, IsEvict, Makes, StaysF
 
 -- a search that kept its turns made nothing
 pub makes_none : (s s' : PassState) → Searches s s' → s'.hand.turns ≡ s.hand.turns → Makes s [] s'
-makes_none s s' did turns = record { goes = did.goes; turns = turns; pins = did.pins; links = did.links; parts = did.parts; since_survey = did.since_survey }
+makes_none s s' did turns = record { goes = did.goes; turns = turns; pins = did.pins; links = did.links; pointers = did.pointers; parts = did.parts; since_survey = did.since_survey }
 
 -- one after another
 pub makes_on : (s s' s'' : PassState) (xs ys : List Made) → Makes s xs s' → Makes s' ys s'' → Makes s (xs ++ ys) s''
@@ -35,6 +35,7 @@ makes_on s s' s'' xs ys a b = record {
   turns = b.turns ∙ a.turns;
   pins = b.pins ∙ a.pins;
   links = λ c. b.links c ∙ a.links c;
+  pointers = b.pointers ∙ a.pointers;
   parts = λ c had. b.parts c (subst (Has c) (sym a.turns) had) ∙ a.parts c had;
   since_survey = b.since_survey ∙ a.since_survey;
 }

@@ -108,5 +108,6 @@ module _ (s : PassState) (e : ℕ) (clock : ClockTurn) (low : ℕ) (end : RoundE
     links = λ d. ap (λ (y : HandState Stamp Part Ground). links_on core_terms y d) h.stamped.now
         ∙ (ap (λ (l : ℕ → ℕ → ℕ). l s.hand.number d) (linked_append core_terms s.hand.home.base.grounds no_link (s.hand.seen ++ h.stamped.more) (record { entry = round_stamp s e low end s.sweep.words; kept = kept (drafted s e low end) } ∷ []))
         ∙ links_more core_terms s.hand h.stamped.more s.hand.turns (let one = may.actor.from_one in omega (arith, one)) h.stamped.others d);
+    pointers = ap (λ (y : PassState). y.pointers) h.rest;
     words = ap (λ (y : PassState). y.sweep.words) h.rest;
   }

@@ -70,4 +70,5 @@ module _ (z : Site) (e low : ℕ) (s : PassState) (can : CanSwap z e s) (clock :
       no_turn = no_turn;
       pins = en.pins ∙ (ev.makes.pins ∙ b.pins);
       links = λ c. en.links c ∙ (ev.makes.links c ∙ b.links c);
+      pointers = en.pointers ∙ (ev.makes.pointers ∙ b.pointers);
     }

@@ -20,12 +20,13 @@ use Rattle.eleos_machine.specs.Machines.{Site, plan_at, seals_at}
 use Rattle.eleos_machine.specs.Notes.{is_noted_free}
 use Rattle.eleos_machine.specs.Passes.{PassState, part_seen}
 
--- the pass made these entries, each with its stamp. It has the turns, pins and links that it had, and the cells whose turns it has are as before.
+-- the pass made these entries, each with its stamp. It has the turns, pins, links and pointers that it had, and the cells whose turns it has are as before.
 pub record Makes (s : PassState) (made : List Made) (s' : PassState) : Type 0 where
   pub goes : Goes core_terms s.hand s'.hand made
   pub turns : s'.hand.turns ≡ s.hand.turns
   pub pins : s'.hand.pins ≡ s.hand.pins
   pub links : (c : ℕ) → links_on core_terms s'.hand c ≡ links_on core_terms s.hand c
+  pub pointers : s'.pointers ≡ s.pointers
   pub parts : (c : ℕ) → Has c s.hand.turns → part_seen s' c ≡ part_seen s c
   pub since_survey : s'.sweep.since_survey ≡ s.sweep.since_survey
 

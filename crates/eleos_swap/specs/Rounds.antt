@@ -39,10 +39,11 @@ pub record Begins (z : Site) (s : PassState) (e : ℕ) (clock : ClockTurn) (s' :
   pub since_survey : s'.sweep.since_survey ≡ true
   pub pins : s'.hand.pins ≡ s.hand.pins
   pub links : (c : ℕ) → links_on core_terms s'.hand c ≡ links_on core_terms s.hand c
+  pub pointers : s'.pointers ≡ s.pointers
 
 module _ {P : Type 0} (port : Ghosts P) (host : store.Ghosts P) where
   -- the pass evicted pages, no more than frames were wanted, from frames that its sweep has with 0, and the host took just what they seal. Then it stamped
-  -- one survey with that sweep. It has no turn, and the pins and links that it had.
+  -- one survey with that sweep. It has no turn, and the pins, links and pointers that it had.
   pub record Swaps (s : PassState) (before : TapState P) (e low : ℕ) (end : RoundEnd) (s' : PassState) (tap : TapState P) : Type 0 where
     pub evicts : List Made
     pub past : History
@@ -54,3 +55,4 @@ module _ {P : Type 0} (port : Ghosts P) (host : store.Ghosts P) where
     pub no_turn : s'.hand.turns ≡ []
     pub pins : s'.hand.pins ≡ s.hand.pins
     pub links : (c : ℕ) → links_on core_terms s'.hand c ≡ links_on core_terms s.hand c
+    pub pointers : s'.pointers ≡ s.pointers

@@ -28,7 +28,7 @@ pub record MayEnd (s : PassState) (e : ℕ) (clock : ClockTurn) (low : ℕ) : Ty
   pub since_survey : s.sweep.since_survey ≡ true
   pub stop : MayStop clock.clock low s.sweep.words
 
--- the survey was stamped with what the pass has noted then, and the turn of the clock cell went back. Frames that were noted as free stay so; pins and links are as before.
+-- the survey was stamped with what the pass has noted then, and the turn of the clock cell went back. Frames that were noted as free stay so; pins, links and pointers are as before.
 pub record EndsRound (s : PassState) (e : ℕ) (clock : ClockTurn) (low : ℕ) (end : RoundEnd) (s' : PassState) : Type 0 where
   pub past : History
   pub goes : Goes core_terms s.hand s'.hand ((length past, round_stamp s e low end s'.sweep.words) ∷ [])
@@ -38,6 +38,7 @@ pub record EndsRound (s : PassState) (e : ℕ) (clock : ClockTurn) (low : ℕ) (
   pub turns : s'.hand.turns ≡ less_one clock.number s.hand.turns
   pub pins : s'.hand.pins ≡ s.hand.pins
   pub links : (c : ℕ) → links_on core_terms s'.hand c ≡ links_on core_terms s.hand c
+  pub pointers : s'.pointers ≡ s.pointers
 
 -- the end may be stamped
 pub record MaySurvey (s : PassState) (e : ℕ) (clock : ClockTurn) (low : ℕ) (end : RoundEnd) : Type 0 where
@@ -58,4 +59,5 @@ pub record Surveys (s : PassState) (e : ℕ) (clock : ClockTurn) (low : ℕ) (en
   pub turns : s'.hand.turns ≡ s.hand.turns
   pub pins : s'.hand.pins ≡ s.hand.pins
   pub links : (c : ℕ) → links_on core_terms s'.hand c ≡ links_on core_terms s.hand c
+  pub pointers : s'.pointers ≡ s.pointers
   pub words : s'.sweep.words ≡ s.sweep.words

@@ -31,8 +31,8 @@ returns-in-Some g c =
     let inside = subst (λ n. c.loop-place.place < n) c.count_of-place-end.ensures c.loop-place-test.true in
     record {
       inside = inside;
-      found = (refl, c.in-Some.ensures.0 ∙ c.frame_in.ensures, free_on c.args.pass.now c.loop-place.pass c.try_free.new.pass c.in-Some.found c.left.ensures.lawful c.loop-place.invariant.searches c.loop-place.invariant.turns c.in-Some.ensures.1);
-      notes = subst (λ ws. AreNotes c.args.clock.now.clock true (free_notes ws)) (sym (c.in-Some.ensures.2 ∙ ap (λ (w : Sweep). w.words) c.loop-place.invariant.sweep)) c.requires.notes;
+      found = (c.if-not-free.false, c.in-Some.ensures.0 ∙ c.frame_in.ensures, free_on c.args.pass.now c.loop-place.pass c.try_free.new.pass c.in-Some.found c.left.ensures.lawful c.loop-place.invariant.searches c.loop-place.invariant.turns c.in-Some.ensures.1);
+      notes = subst (λ ws. AreNotes c.args.clock.now.clock c.args.free (free_notes ws)) (sym (c.in-Some.ensures.2 ∙ ap (λ (w : Sweep). w.words) c.loop-place.invariant.sweep)) c.requires.notes;
       keeps = subst (λ ws. KeepsFree c.args.pass.now.sweep.words ws) (sym (c.in-Some.ensures.2 ∙ ap (λ (w : Sweep). w.words) c.loop-place.invariant.sweep)) (keeps_same c.args.pass.now.sweep.words);
       fresh = λ wrong. absurd (cc);
     }

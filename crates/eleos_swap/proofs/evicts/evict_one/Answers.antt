@@ -1,13 +1,22 @@
-use Rattle.std.proofs.Common.{false, refl, subst}
+use Rattle.std.proofs.Common.{false, refl, subst, sym}
 use Rattle.eleos_clock.specs.declared.found.Found.{Found}
+use Rattle.eleos_clock.specs.declared.found.Found.TheVariants.{Sole}
 use Rattle.eleos_clock.specs.Answered.{FoundThere}
 use Rattle.eleos_pages.specs.Evicted.{HasEvicted}
+use Rattle.eleos_machine.specs.Holding.{HasSole}
+use Rattle.eleos_machine.specs.Notes.{cleared}
 use Rattle.eleos_machine.specs.Passes.{PassState}
-use Rattle.eleos_swap.proofs.Evicting.{evicted, hand_moves, none_left, room, search_notes, unnoted}
+use Rattle.eleos_swap.proofs.Evicting.{evicted, hand_moves, none_left, room, search_notes, sole_on, unnoted}
 use Rattle.eleos_swap.proofs.evicts.evict_one.Goals as goal
 
 pub victim-requires-clause-notes : goal.victim-requires-clause-notes
 victim-requires-clause-notes g c = search_notes c.args.clock.now.clock c.args.pass.now.sweep.words c.requires.free
+
+pub evict-free-requires-clause-has : goal.evict-free-requires-clause-has
+evict-free-requires-clause-has g c =
+    let there : FoundThere c.args.pass.now c.args.clock.now.clock c.args.clock.now.hand false (Sole c.in-Ok-Sole.sole) c.victim.new.pass c.victim.new.clock.hand =
+    subst (λ (y : Found). FoundThere c.args.pass.now c.args.clock.now.clock c.args.clock.now.hand false y c.victim.new.pass c.victim.new.clock.hand) c.in-Ok-Sole.field-0-is c.in-Ok-Sole.ensures.answers in
+    subst (λ (y : PassState). HasSole y c.in-Ok-Sole.sole) (sym c.sweep_clear.ensures) (sole_on c.victim.new.pass (cleared false c.victim.new.pass.sweep) c.in-Ok-Sole.sole there.there.1.has)
 
 pub note-requires-clause-room : goal.note-requires-clause-room
 note-requires-clause-room g c = room c.args.m.now c.args.pass.now c.args.clock.now c.requires.may c.left.ensures.lawful c.requires.free c.in-Ok-Sole.sole c.args.clock.now.hand c.victim.new.clock.hand c.victim.new.pass
