@@ -2,7 +2,6 @@
 // form.
 ghost use Rattle.std.specs.Prelude.{◌≡◌, ℕ, List, IfOk, map};
 ghost use Rattle.std.specs.List.{slice_split};
-ghost use Rattle.eleos_trace.specs.Actors.{actor_of, is_caller_word};
 ghost use Rattle.eleos_texts.specs.Fields.{most_u32};
 ghost use Rattle.eleos_texts.specs.Reasons.{Reads};
 ghost use Rattle.eleos_report.specs.Fields.{most_u64, number_of, name_of, bytes_of, block_of};
@@ -13,7 +12,7 @@ use eleos_base::{Bytes, Looked};
 use eleos_texts::counts::two;
 use eleos_texts::fields::{hex_bytes, is_name, number_u32, number_up_to};
 use eleos_texts::{LineRefused, Why, refused};
-use eleos_trace::Actor;
+use eleos_trace::{Actor, actor_of};
 use std::alloc::{AllocError, Global};
 
 /// Bytes of a block.
@@ -96,31 +95,6 @@ pub(crate) fn who_of(text: &[u8]) -> Result<Actor, LineRefused>
         return refused(Why::Form);
     };
     Ok(who)
-}
-
-/// A caller, the swapper, the balloon or the host.
-fn actor_of(word: &[u8]) -> Option<Actor>
-    ensures { result ≡ actor_of word.now }
-{
-    if is_caller_word(word) {
-        return Some(Actor::Caller(u32::from(word[1] - b'0')));
-    }
-    if word == b"s".as_slice() {
-        Some(Actor::Swapper)
-    } else if word == b"b".as_slice() {
-        Some(Actor::Balloon)
-    } else if word == b"h".as_slice() {
-        Some(Actor::Host)
-    } else {
-        None
-    }
-}
-
-/// Whether it is `c1` to `c8`.
-fn is_caller_word(word: &[u8]) -> bool
-    ensures { result ≡ is_caller_word word.now }
-{
-    word.len() == 2 && word[0] == b'c' && b'1' <= word[1] && word[1] <= b'8'
 }
 
 /// `FRAME:WORD`

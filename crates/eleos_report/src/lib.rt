@@ -14,4 +14,4 @@ mod writing;
 pub use answer::{Answer, Block};
 pub use line::LogLine;
 pub use reading::read_log;
-pub use writing::{push_end, push_line, push_put, push_said, write_line};
+pub use writing::{push_line, push_put, push_said, write_line};

@@ -43,7 +43,7 @@ pub(crate) fn push_command(alloc: Global, out: &mut Vec<u8>, command: &Word) -> 
             bytes,
         } => {
             push_call(alloc, out, b"write", name.as_slice(), *offset)?;
-            push_hex_field(alloc, out, bytes.as_slice())
+            push_hex_field(out, bytes.as_slice())
         }
         Word::Tie { name, offset } => push_call(alloc, out, b"tie", name.as_slice(), *offset),
         Word::Untie { name, offset } => push_call(alloc, out, b"untie", name.as_slice(), *offset),

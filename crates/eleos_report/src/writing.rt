@@ -1,7 +1,7 @@
 // The printed spelling of replies and of whole lines.
 ghost use Rattle.std.specs.Prelude.{◌≡◌, ◌++◌, ◌∷◌, IfOk, OnOk, Some, codes, map};
 ghost use Rattle.eleos_report.specs.declared.answer.Answer.TheVariants.{Put};
-ghost use Rattle.eleos_report.specs.declared.line.LogLine.TheVariants.{End, Said};
+ghost use Rattle.eleos_report.specs.declared.line.LogLine.TheVariants.{Said};
 ghost use Rattle.std.specs.String.{string_bytes};
 ghost use Rattle.eleos_trace.specs.declared.trace.Kind.{Kind};
 ghost use Rattle.eleos_report.specs.Grammar.{IsLine};
@@ -13,7 +13,7 @@ use crate::words::{push_actor, push_command};
 use crate::{Answer, Block, LogLine};
 use eleos_base::{Looked, NoMemory, Part};
 use eleos_texts::printing::{
-    push, push_field, push_hex_field, push_number, push_number_field, push_numbered,
+    push, push_end, push_field, push_hex_field, push_number, push_number_field, push_numbered,
 };
 use eleos_trace::{Actor, Word};
 use std::alloc::Global;
@@ -77,15 +77,6 @@ pub fn push_put(
     push(out, b"\n")
 }
 
-/// Adds the last line of a log.
-pub fn push_end(alloc: Global, out: &mut Vec<u8>, count: u64) -> Result<(), NoMemory>
-    ensures { OnOk result (out.new.items ≡ out.old.items ++ line_text (End count)) }
-{
-    push(out, b"end ")?;
-    push_number(alloc, out, count)?;
-    push(out, b"\n")
-}
-
 /// `put N`, with a blank before each.
 fn push_put_answer(alloc: Global, out: &mut Vec<u8>, count: u64) -> Result<(), NoMemory>
     ensures { OnOk result (out.new.items ≡ out.old.items ++ spaced (answer_fields (Put count))) }
@@ -131,7 +122,7 @@ fn push_answer(alloc: Global, out: &mut Vec<u8>, answer: &Answer) -> Result<(), 
         Answer::Okay => push(out, b" ok"),
         Answer::Got { bytes } => {
             push(out, b" got")?;
-            push_hex_field(alloc, out, bytes.as_slice())
+            push_hex_field(out, bytes.as_slice())
         }
         Answer::Put { count } => push_numbered(alloc, out, b"put", *count),
         Answer::BadSize => push(out, b" badsize"),
@@ -143,7 +134,7 @@ fn push_answer(alloc: Global, out: &mut Vec<u8>, answer: &Answer) -> Result<(), 
         Answer::Worn { sub } => push_numbered(alloc, out, b"worn", *sub),
         Answer::Tampered { sub, block } => {
             push_numbered(alloc, out, b"tampered", *sub)?;
-            push_block(alloc, out, block)
+            push_block(out, block)
         }
         Answer::NoFrame { sweep } => {
             push(out, b" noframe")?;
@@ -159,11 +150,11 @@ fn push_answer(alloc: Global, out: &mut Vec<u8>, answer: &Answer) -> Result<(), 
 }
 
 /// The block that did not pass, where it is told.
-fn push_block(alloc: Global, out: &mut Vec<u8>, block: &Option<Block>) -> Result<(), NoMemory>
+fn push_block(out: &mut Vec<u8>, block: &Option<Block>) -> Result<(), NoMemory>
     ensures { OnOk result (out.new.items ≡ out.old.items ++ spaced (block_fields block.now)) }
 {
     match block {
-        Some(block) => push_hex_field(alloc, out, block.as_slice()),
+        Some(block) => push_hex_field(out, block.as_slice()),
         None => Ok(()),
     }
 }

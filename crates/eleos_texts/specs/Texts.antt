@@ -1,5 +1,5 @@
 -- The end of a text, and the printed spelling of bytes and reasons.
-use Rattle.std.specs.Prelude.{ℕ, List, [], ◌∷◌, ◌++◌, Result, Ok, Err, codes}
+use Rattle.std.specs.Prelude.{ℕ, ◌*◌, ◌==◌, List, [], ◌∷◌, ◌++◌, Result, Ok, Err, codes, if◌then◌else◌}
 use Rattle.std.specs.Fmt.{decimal}
 use Rattle.hex.specs.Hex.{encode_lower}
 use Rattle.eleos_texts.specs.declared.why.Bad.{Bad}
@@ -19,6 +19,10 @@ ended line texts = Err (record { line = line; why = After })
 abbrev pub hex_text : List ℕ → List ℕ
 hex_text [] = codes "-"
 hex_text (b ∷ bs) = encode_lower (b ∷ bs)
+
+-- the bytes of that text, by the number of bytes
+abbrev pub hex_length : ℕ → ℕ
+hex_length bytes = if bytes == 0 then 1 else 2 * bytes
 
 -- a word, a blank and a number
 abbrev pub with_number : List ℕ → ℕ → List ℕ

@@ -111,13 +111,9 @@ pub fn hex_bytes(alloc: Global, text: &[u8]) -> Result<Option<Bytes>, NoMemory>
     if text.is_empty() {
         return Ok(None);
     }
-    if let Some(bytes) = digits::bytes_of(alloc, text)? {
-        return Ok(Some(Bytes::of(bytes)));
-    }
-    match hex::decode(alloc, text) {
-        Ok(bytes) => Ok(Some(Bytes::of(bytes))),
-        Err(hex::FromHexError::OutOfMemory) => Err(NoMemory),
-        Err(_) => Ok(None),
+    match digits::bytes_of(alloc, text)? {
+        Some(bytes) => Ok(Some(Bytes::of(bytes))),
+        None => Ok(None),
     }
 }
 

@@ -5,8 +5,9 @@ ghost use Rattle.eleos_trace.specs.Actors.{is_swapper, is_balloon, is_host};
 
 use crate::Actor;
 
-/// A caller, the swapper, the balloon or the host.
-pub(crate) fn actor_of(word: &[u8]) -> Option<Actor>
+/// A caller, the swapper, the balloon or the host, by the word that a line begins with. None comes
+/// for any other word.
+pub fn actor_of(word: &[u8]) -> Option<Actor>
     ensures { result ≡ actor_of word.now }
 {
     if is_caller_word(word) {

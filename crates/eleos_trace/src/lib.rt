@@ -18,6 +18,7 @@ mod trace;
 mod verbs;
 mod word;
 
+pub use actors::actor_of;
 pub use machines::places;
 pub use reading::{line_count, parse, parse_prefix};
 pub use trace::{Kind, Line, Trace};

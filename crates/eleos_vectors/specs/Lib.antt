@@ -1,2 +1,3 @@
 pub mod Answers
 pub mod Vectors
+pub mod Rooms

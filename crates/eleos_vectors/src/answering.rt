@@ -1,128 +1,142 @@
 // What the ciphers answer.
-ghost use Rattle.std.specs.Prelude.{◌≡◌, ◌++◌, ◌≤◌, length, OnOk, IfOk};
+ghost use Rattle.std.specs.Prelude.{◌≡◌, ◌++◌, ◌+◌, ◌<◌, ◌≤◌, ◌^◌, length, IfOk, SomeIff};
+ghost use Rattle.std.specs.Prelude.{vec_capacity, vec_len};
 ghost use Rattle.eleos_base.specs.AesCipher.{aes};
 ghost use Rattle.eleos_base.specs.Gcm.{ciphertext_of};
 ghost use Rattle.eleos_texts.specs.Texts.{hex_text};
-ghost use Rattle.eleos_vectors.specs.Answers.{sealed_text, opened_text, vector_text, answer_text};
-ghost use Rattle.eleos_vectors.specs.Answers.{answers_text};
+ghost use Rattle.eleos_vectors.specs.Answers.{sealed_text, opened_text, answer_text};
+ghost use Rattle.eleos_vectors.specs.Answers.{answers_text, vector_text};
+ghost use Rattle.eleos_vectors.specs.Rooms.{answer_room, answers_room, opened_room, sealed_room};
 
+use crate::keys::{KeptSealer, Key, keep, kept_sealer};
 use crate::vector::Vector;
-use eleos_aes::Aes;
 use eleos_base::{NoMemory, Sealer};
 use eleos_gcm::Gcm;
-use eleos_texts::printing::{push, push_end, push_hex};
+use eleos_texts::printing::{push_end, push_hex, push_within};
 use std::alloc::Global;
 
 /// Bytes of the last line: `end`, a blank, the digits of a number and a newline.
 const MOST_END: usize = 25;
 
-/// The answers to vectors, a line for each, and their number.
-pub fn answers(alloc: Global, vectors: &[Vector]) -> Result<Vec<u8>, NoMemory>
-    ensures { IfOk result (λ text. text.items ≡ answers_text vectors.now) }
+/// The answers to vectors, a line for each, and their number. Each is answered in place.
+pub fn answers(alloc: Global, vectors: Vec<Vector>) -> Result<Vec<u8>, NoMemory>
+    ensures { IfOk result (λ text. text.items ≡ answers_text vectors.items) }
 {
-    let mut text = Vec::with_capacity(alloc, room_for(vectors))?;
+    let Some(room) = answer_room(&vectors) else {
+        return Err(NoMemory);
+    };
+    let mut text = Vec::with_capacity(alloc, room)?;
+    let count = vectors.len() as u64;
+    let mut kept = None;
     for vector in vectors {
-        push_vector(alloc, &mut text, vector)?;
-        push(&mut text, b"\n")?;
+        push_answer(&mut text, &mut kept, vector);
     }
-    push_end(alloc, &mut text, vectors.len() as u64)?;
+    push_end(alloc, &mut text, count)?;
     Ok(text)
 }
 
-/// Room for the answers in bytes, so that their text need not grow. Nothing is promised of it.
-fn room_for(vectors: &[Vector]) -> usize {
-    vectors.iter().fold(MOST_END, |room, vector| {
-        room.saturating_add(vector.answer_room())
-    })
+/// Bytes that the answers have room in: those of the longest answers to such vectors. None comes
+/// where no number of 64 bits says so many.
+pub fn answer_room(vectors: &[Vector]) -> Option<usize>
+    ensures { SomeIff result (answers_room vectors.now < 2 ^ 64) (answers_room vectors.now) }
+{
+    let mut room = MOST_END;
+    for vector in vectors {
+        room = room.checked_add(vector.answer_room())?;
+    }
+    Some(room)
 }
 
-fn push_vector(alloc: Global, out: &mut Vec<u8>, vector: &Vector) -> Result<(), NoMemory>
-    ensures { OnOk result (out.new.items ≡ out.old.items ++ vector_text vector.now) }
+/// Adds the line that answers the vector, for which there is room.
+fn push_answer(out: &mut Vec<u8>, kept: &mut Option<KeptSealer>, vector: Vector)
+    requires { vec_len out.old + answer_room vector ≤ vec_capacity out.old }
+    ensures text { out.new.items ≡ out.old.items ++ answer_text vector }
+    ensures within { vec_len out.new ≤ vec_len out.old + answer_room vector }
+    ensures capacity { vec_capacity out.old ≤ vec_capacity out.new }
+{
+    push_vector(out, kept, vector);
+    push_within(out, b"\n");
+}
+
+/// Adds the answer to the vector, and leaves room for a newline.
+fn push_vector(out: &mut Vec<u8>, kept: &mut Option<KeptSealer>, vector: Vector)
+    requires { vec_len out.old + answer_room vector ≤ vec_capacity out.old }
+    ensures text { out.new.items ≡ out.old.items ++ vector_text vector }
+    ensures within { vec_len out.new < vec_len out.old + answer_room vector }
+    ensures capacity { vec_capacity out.old ≤ vec_capacity out.new }
 {
     match vector {
-        Vector::Aes { key, block } => push_encrypted(alloc, out, &key.cipher(), block),
+        Vector::Aes { key, block } => push_encrypted(out, &key, &block),
         Vector::Seal {
             key,
             nonce,
             aad,
             text,
-        } => push_sealed(
-            alloc,
-            out,
-            &key.sealer(),
-            nonce,
-            aad.as_slice(),
-            text.as_slice(),
-        ),
+        } => {
+            keep(kept, key);
+            let mut text = text.into_vec();
+            push_sealed(out, kept_sealer(kept), &nonce, aad.as_slice(), &mut text)
+        }
         Vector::Open {
             key,
             nonce,
             aad,
             ciphertext,
             tag,
-        } => push_opened(
-            alloc,
-            out,
-            &key.sealer(),
-            nonce,
-            aad.as_slice(),
-            ciphertext.as_slice(),
-            tag,
-        ),
+        } => {
+            keep(kept, key);
+            let sealer = kept_sealer(kept);
+            let mut ciphertext = ciphertext.into_vec();
+            push_opened(out, sealer, &nonce, aad.as_slice(), &mut ciphertext, &tag)
+        }
     }
 }
 
-fn push_encrypted(
-    alloc: Global,
-    out: &mut Vec<u8>,
-    key: &Aes,
-    block: &[u8; 16],
-) -> Result<(), NoMemory>
-    ensures { OnOk result (out.new.items ≡ out.old.items ++ hex_text (aes key.now block.now)) }
+fn push_encrypted(out: &mut Vec<u8>, key: &Key, block: &[u8; 16])
+    requires { vec_len out.old + 33 ≤ vec_capacity out.old }
+    ensures text { out.new.items ≡ out.old.items ++ hex_text (aes key.now block.now) }
+    ensures within { vec_len out.new < vec_len out.old + 33 }
+    ensures capacity { vec_capacity out.old ≤ vec_capacity out.new }
 {
     let mut encrypted = *block;
-    key.encrypt(&mut encrypted);
-    push_hex(alloc, out, &encrypted)
+    key.cipher().encrypt(&mut encrypted);
+    push_hex(out, &encrypted);
 }
 
-fn push_sealed(
-    alloc: Global,
-    out: &mut Vec<u8>,
-    key: &Gcm,
-    nonce: &[u8; 12],
-    aad: &[u8],
-    text: &[u8],
-) -> Result<(), NoMemory>
+fn push_sealed(out: &mut Vec<u8>, sealer: &Gcm, nonce: &[u8; 12], aad: &[u8], text: &mut [u8])
     requires aad_fits { length aad.now ≤ 1048576 }
-    requires text_fits { length text.now ≤ 1048576 }
-    ensures { OnOk result (out.new.items ≡ out.old.items
-        ++ sealed_text key.now nonce.now aad.now (ciphertext_of key.now nonce.now text.now)) }
+    requires text_fits { length text.old ≤ 1048576 }
+    requires room { vec_len out.old + sealed_room (length text.old) ≤ vec_capacity out.old }
+    ensures text { out.new.items ≡ out.old.items
+        ++ sealed_text sealer.now nonce.now aad.now (ciphertext_of sealer.now nonce.now text.old) }
+    ensures within { vec_len out.new < vec_len out.old + sealed_room (length text.old) }
+    ensures capacity { vec_capacity out.old ≤ vec_capacity out.new }
 {
-    let mut ciphertext = text.to_vec(alloc)?;
-    let tag = key.seal(nonce, aad, &mut ciphertext);
-    push_hex(alloc, out, &ciphertext)?;
-    push(out, b" ")?;
-    push_hex(alloc, out, &tag)
+    let tag = sealer.seal(nonce, aad, text);
+    push_hex(out, text);
+    push_within(out, b" ");
+    push_hex(out, &tag);
 }
 
 fn push_opened(
-    alloc: Global,
     out: &mut Vec<u8>,
-    key: &Gcm,
+    sealer: &Gcm,
     nonce: &[u8; 12],
     aad: &[u8],
-    ciphertext: &[u8],
+    text: &mut [u8],
     tag: &[u8; 16],
-) -> Result<(), NoMemory>
+)
     requires aad_fits { length aad.now ≤ 1048576 }
-    requires text_fits { length ciphertext.now ≤ 1048576 }
-    ensures { OnOk result (out.new.items ≡ out.old.items
-        ++ opened_text key.now nonce.now aad.now ciphertext.now tag.now) }
+    requires text_fits { length text.old ≤ 1048576 }
+    requires room { vec_len out.old + opened_room (length text.old) ≤ vec_capacity out.old }
+    ensures text { out.new.items ≡ out.old.items
+        ++ opened_text sealer.now nonce.now aad.now text.old tag.now }
+    ensures within { vec_len out.new < vec_len out.old + opened_room (length text.old) }
+    ensures capacity { vec_capacity out.old ≤ vec_capacity out.new }
 {
-    let mut text = ciphertext.to_vec(alloc)?;
-    if key.unseal(nonce, aad, &mut text, tag) {
-        push_hex(alloc, out, &text)
+    if sealer.unseal(nonce, aad, text, tag) {
+        push_hex(out, text)
     } else {
-        push(out, b"fail")
+        push_within(out, b"fail")
     }
 }

@@ -6,6 +6,6 @@ mod keys;
 mod reading;
 mod vector;
 
-pub use answering::answers;
+pub use answering::{answer_room, answers};
 pub use reading::vectors_in;
 pub use vector::{ShortText, Vector};

@@ -1,9 +1,11 @@
 // What a line asks the ciphers.
 ghost use Rattle.std.specs.Prelude.{◌≡◌, ◌≤◌, length};
+ghost use Rattle.eleos_vectors.specs.Rooms.{answer_room};
 ghost use Rattle.eleos_vectors.specs.Vectors.{short};
 
 use crate::keys::Key;
 use eleos_base::Bytes;
+use eleos_texts::printing::hex_length;
 use std::marker::Model;
 
 /// Bytes of an aad or of a text.
@@ -41,6 +43,14 @@ impl ShortText {
     {
         self.bytes.as_slice()
     }
+
+    /// Takes no memory.
+    pub(crate) fn into_vec(self) -> Vec<u8>
+        ensures same { result.items ≡ self }
+        ensures short { length result.items ≤ 1048576 }
+    {
+        self.bytes.into_vec()
+    }
 }
 
 /// What a line asks the ciphers. The key of each has the length of one.
@@ -69,13 +79,15 @@ pub enum Vector {
 }
 
 impl Vector {
-    /// Room in bytes for the line that answers it: digits of a block, of a text and a tag, or of a
-    /// text or `fail`. Nothing is promised of it.
-    pub(crate) fn answer_room(&self) -> usize {
+    /// Bytes of the longest line that answers such a vector: digits of a block, of a text and a
+    /// tag, or of a text or `fail`.
+    pub(crate) fn answer_room(&self) -> usize
+        ensures { result ≡ answer_room self.now }
+    {
         match self {
             Vector::Aes { .. } => 33,
-            Vector::Seal { text, .. } => 2 * text.as_slice().len() + 35,
-            Vector::Open { ciphertext, .. } => 2 * ciphertext.as_slice().len() + 5,
+            Vector::Seal { text, .. } => hex_length(text.as_slice().len()) + 34,
+            Vector::Open { ciphertext, .. } => hex_length(ciphertext.as_slice().len()).max(4) + 1,
         }
     }
 }

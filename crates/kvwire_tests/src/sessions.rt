@@ -140,80 +140,93 @@ fn a_small_session_is_read(rt: HostRuntime) -> Result<(), Fail> {
     Ok(())
 }
 
-/// A text that is refused, at this line for this reason.
-type Refusal = (&'static str, u32, Why);
+/// What stands before these lines, the lines, and at which line they are refused for which reason.
+type Refusal = (&'static str, &'static str, u32, Why);
 
-/// Texts that are refused in their header.
-const HEADERS: [Refusal; 15] = [
-    ("", 1, Why::Cut),
-    ("eleos-kv 1", 1, Why::Cut),
-    ("eleos-kv 2\n", 1, Why::Form),
-    ("eleos-kv 1\npages 0 frames 1\n", 2, Why::Range),
-    ("eleos-kv 1\npages 1025 frames 1\n", 2, Why::Range),
-    ("eleos-kv 1\npages 4 frames 513\n", 2, Why::Range),
-    ("eleos-kv 1\npages 04 frames 1\n", 2, Why::Form),
-    ("eleos-kv 1\npages 4 frames 0\nclients 1\n", 3, Why::Form),
-    ("eleos-kv 1\npages 4 frames 0\nshards 9\n", 3, Why::Range),
+/// Texts that are refused: in their header, and behind it.
+const REFUSALS: [Refusal; 37] = [
+    ("", "", 1, Why::Cut),
+    ("", "eleos-kv 1", 1, Why::Cut),
+    ("", "eleos-kv 2\n", 1, Why::Form),
+    ("", "eleos-kv 1\npages 0 frames 1\n", 2, Why::Range),
+    ("", "eleos-kv 1\npages 1025 frames 1\n", 2, Why::Range),
+    ("", "eleos-kv 1\npages 4 frames 513\n", 2, Why::Range),
+    ("", "eleos-kv 1\npages 04 frames 1\n", 2, Why::Form),
     (
+        "",
+        "eleos-kv 1\npages 4 frames 0\nclients 1\n",
+        3,
+        Why::Form,
+    ),
+    (
+        "",
+        "eleos-kv 1\npages 4 frames 0\nshards 9\n",
+        3,
+        Why::Range,
+    ),
+    (
+        "",
         "eleos-kv 1\npages 4 frames 0\nshards 8\nclients 0\n",
         4,
         Why::Range,
     ),
     (
+        "",
         "eleos-kv 1\npages 4 frames 0\nshards 8\nclients 8\nwear 0\n",
         5,
         Why::Range,
     ),
     (
+        "",
         "eleos-kv 1\npages 4 frames 0\nshards 8\nclients 8\nwear 9223372036854775809\n",
         5,
         Why::Range,
     ),
     (
+        "",
         "eleos-kv 1\npages 4 frames 0\nshards 8\nclients 8\nwear 1\nkey -\n",
         6,
         Why::Range,
     ),
     (
+        "",
         "eleos-kv 1\npages 4 frames 0\nshards 8\nclients 8\nwear 1\nkey 0\n",
         6,
         Why::Form,
     ),
     (
+        "",
         "eleos-kv 1\npages 4 frames 0\nshards 8\nclients 8\nwear 1\nkey 00112233445566778899aabbccddeeff\nstart \n",
         7,
         Why::Form,
     ),
-];
-
-/// Lines behind the header that are refused.
-const LINES: [Refusal; 22] = [
-    ("", 8, Why::Cut),
-    ("end", 8, Why::Cut),
-    ("end\nx", 9, Why::After),
-    ("end\n\n", 9, Why::After),
-    ("3 get a\n", 8, Why::Range),
-    ("0 get a\n", 8, Why::Range),
-    ("4294967297 get a\n", 8, Why::Range),
-    ("01 get a\n", 8, Why::Form),
-    ("1 get  a\n", 8, Why::Form),
-    ("1 get a b\n", 8, Why::Form),
-    ("1 put a\n", 8, Why::Form),
-    ("9 get a\u{7f}\n", 8, Why::Form),
+    (HEADER, "", 8, Why::Cut),
+    (HEADER, "end", 8, Why::Cut),
+    (HEADER, "end\nx", 9, Why::After),
+    (HEADER, "end\n\n", 9, Why::After),
+    (HEADER, "3 get a\n", 8, Why::Range),
+    (HEADER, "0 get a\n", 8, Why::Range),
+    (HEADER, "4294967297 get a\n", 8, Why::Range),
+    (HEADER, "01 get a\n", 8, Why::Form),
+    (HEADER, "1 get  a\n", 8, Why::Form),
+    (HEADER, "1 get a b\n", 8, Why::Form),
+    (HEADER, "1 put a\n", 8, Why::Form),
+    (HEADER, "9 get a\u{7f}\n", 8, Why::Form),
     (
+        HEADER,
         "1 get aaaaaaaaaaaaaaaaaaaaaaaaaaaaaaaaaaaaaaaaaaaaaaaaaaaaaaaaaaaaaaaaa\n",
         8,
         Why::Form,
     ),
-    ("1 set a 0\n", 8, Why::Range),
-    ("1 set a 513\n", 8, Why::Range),
-    ("1 set a 3", 8, Why::Cut),
-    ("1 set a 3\n", 9, Why::Cut),
-    ("1 set a 3\nabc", 9, Why::Cut),
-    ("1 set a 3\nabcd\n", 9, Why::Form),
-    ("1 set a 3\nab\n\n\nend\n", 10, Why::Form),
-    ("1 set a 3\na\nb\n9 get b\n", 10, Why::Range),
-    ("1 get a\n\nend\n", 9, Why::Form),
+    (HEADER, "1 set a 0\n", 8, Why::Range),
+    (HEADER, "1 set a 513\n", 8, Why::Range),
+    (HEADER, "1 set a 3", 8, Why::Cut),
+    (HEADER, "1 set a 3\n", 9, Why::Cut),
+    (HEADER, "1 set a 3\nabc", 9, Why::Cut),
+    (HEADER, "1 set a 3\nabcd\n", 9, Why::Form),
+    (HEADER, "1 set a 3\nab\n\n\nend\n", 10, Why::Form),
+    (HEADER, "1 set a 3\na\nb\n9 get b\n", 10, Why::Range),
+    (HEADER, "1 get a\n\nend\n", 9, Why::Form),
 ];
 
 /// The refusal of the text, in pieces of each size.
@@ -226,11 +239,9 @@ fn is_refused<R: Abort>(rt: &R, alloc: Global, text: &str, line: u32, why: Why) 
 
 #[test]
 fn each_refusal_is_one_for_every_cutting(rt: HostRuntime) -> Result<(), Fail> {
-    for (text, line, why) in HEADERS {
-        is_refused(&rt, rt.alloc(), text, line, why);
-    }
-    for (lines, line, why) in LINES {
-        let text = session_with(rt.alloc(), lines)?;
+    for (header, lines, line, why) in REFUSALS {
+        let mut text = String::from_str(rt.alloc(), header)?;
+        text.push_str(lines)?;
         is_refused(&rt, rt.alloc(), text.as_str(), line, why);
     }
     Ok(())
