@@ -9,7 +9,7 @@ use Rattle.eleos_base.specs.Plans.{IsGood}
 use Rattle.eleos_host.specs.Stores.{Store}
 use Rattle.eleos_trace.specs.declared.trace.Line.{Line}
 use Rattle.eleos_trace.specs.declared.trace.Trace.{Trace}
-use Rattle.eleos_top.specs.declared.answer.Answer.{Answer}
+use Rattle.eleos_top.specs.declared.response.Response.{Response}
 use Rattle.eleos_meaning.specs.declared.meanings.Meaning.{Meaning}
 use Rattle.eleos_meaning.specs.Names.{Names}
 use Rattle.eleos_meaning.specs.declared.meanings.Meaning.TheVariants.{Nameless, Happens, Offends, Acts}
@@ -21,7 +21,7 @@ use Rattle.eleos_top.specs.Replays.{Gets, IsLogOver, Replays}
 use Rattle.eleos_top.specs.Scenes.{Scene, all_names, meaning, opening_of}
 use Rattle.eleos_top.specs.Sessions.{Answered, AlwaysGoesOn, GoesOn, StandsAfter, scene_of}
 
-abbrev pub said_of : Line → Answer → Said
+abbrev pub said_of : Line → Response → Said
 said_of line answer = record { line = line; answer = answer }
 
 abbrev counted : Bool → ℕ
@@ -53,7 +53,7 @@ entries_push (first ∷ said) s = by (is_entry first.answer) (entries_push said 
     by false more = more
 
 module _ (k : Plan) (x : Seals) where
-  replays_push : (lines : List Line) (first : Scene) (said : List Said) (last : Scene) (line : Line) (answer : Answer) (after : Scene)
+  replays_push : (lines : List Line) (first : Scene) (said : List Said) (last : Scene) (line : Line) (answer : Response) (after : Scene)
       → Replays k x lines first said last → Gets k x (meaning k last line) line last answer after
       → Replays k x (lines ++ line ∷ []) first (said ++ said_of line answer ∷ []) after
   replays_push [] first said last line answer after replays gets =
@@ -65,14 +65,14 @@ module _ (k : Plan) (x : Seals) where
   one_more n = omega arith
 
   -- no entry
-  none_more : (scene after : Scene) (answer : Answer) → is_entry answer ≡ false → after ≡ scene → length after.past ≡ length scene.past + counted (is_entry answer)
+  none_more : (scene after : Scene) (answer : Response) → is_entry answer ≡ false → after ≡ scene → length after.past ≡ length scene.past + counted (is_entry answer)
   none_more scene after answer is_not after_is = ap (λ (s : Scene). length s.past) after_is ∙ (zero_more (length scene.past) ∙ ap (λ b. length scene.past + counted b) (sym is_not))
     where
       zero_more : (n : ℕ) → n ≡ n + 0
       zero_more n = omega arith
 
   -- an entry, and nothing else, makes the history longer
-  gets_count : (m : Meaning) (line : Line) (scene : Scene) (answer : Answer) (after : Scene) → Gets k x m line scene answer after → length after.past ≡ length scene.past + counted (is_entry answer)
+  gets_count : (m : Meaning) (line : Line) (scene : Scene) (answer : Response) (after : Scene) → Gets k x m line scene answer after → length after.past ≡ length scene.past + counted (is_entry answer)
   gets_count Nameless line scene answer after got = none_more scene after answer (ap is_entry got.0) got.1
   gets_count (Happens event) line scene answer after (inl is) =
       ap (λ (s : Scene). length s.past) is.after_is ∙ (one_more (length scene.past) ∙ ap (λ a. length scene.past + counted (is_entry a)) (sym is.answer_is))
@@ -103,7 +103,7 @@ module _ (k : Plan) (x : Seals) where
       by (Some store) = ([], store, refl, (refl, refl), refl, refl)
 
   -- one line more
-  pub replayed_more : (told : Option Store) (names : List Names) (lines : List Line) (line : Line) (answer : Answer) (now now' : Option Store) (old new : Session) (text text' : List ℕ)
+  pub replayed_more : (told : Option Store) (names : List Names) (lines : List Line) (line : Line) (answer : Response) (now now' : Option Store) (old new : Session) (text text' : List ℕ)
       → IsReplayed told names lines now old text
       → AlwaysGoesOn k x (Answered k x line) answer now now' old new
       → text' ≡ text ++ said_text (said_of line answer)

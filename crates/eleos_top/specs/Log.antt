@@ -12,13 +12,13 @@ use Rattle.eleos_meaning.specs.Calls.{answer_of}
 use Rattle.eleos_trace.specs.declared.trace.Line.{Line}
 use Rattle.eleos_trace.specs.declared.word.Word.{Word}
 use Rattle.eleos_trace.specs.declared.word.Word.TheVariants.{Evict}
-use Rattle.eleos_top.specs.declared.answer.Answer.{Answer}
-use Rattle.eleos_top.specs.declared.answer.Answer.TheVariants.{Skipped, Entered, Refused, Acted}
+use Rattle.eleos_top.specs.declared.response.Response.{Response}
+use Rattle.eleos_top.specs.declared.response.Response.TheVariants.{Skipped, Entered, Refused, Acted}
 
 -- a command of a replay, and what it came to
 pub record Said : Type 0 where
   pub line : Line
-  pub answer : Answer
+  pub answer : Response
 
 -- the reply to a command that became an entry: an evict tells how many blocks were put, and no block that did not pass is told
 abbrev pub evict_reply : Reply → ℕ → Printed
@@ -36,7 +36,7 @@ act_reply true = printed.Okay
 act_reply false = printed.Nothing
 
 -- the line of a command that came to this
-abbrev pub line_said : Line → Answer → LogLine
+abbrev pub line_said : Line → Response → LogLine
 line_said line Skipped = lines.Said None line.actor line.command printed.Skipped
 line_said line (Entered stamp reply puts) = lines.Said (Some stamp) line.actor line.command (entry_reply line.command reply puts)
 line_said line (Refused part) = lines.Said None line.actor line.command (printed.Illegal part)
@@ -51,7 +51,7 @@ abbrev pub lines_text : List Said → List ℕ
 lines_text lines = flat_map said_text lines
 
 -- the answer is an entry
-abbrev pub is_entry : Answer → Bool
+abbrev pub is_entry : Response → Bool
 is_entry (Entered stamp reply puts) = true
 is_entry _ = false
 
@@ -60,5 +60,5 @@ abbrev pub entries : List Said → ℕ
 entries lines = length (filter (λ said. is_entry said.answer) lines)
 
 -- the lines, and `end N` with the number of entries
-abbrev pub log_text : List Said → List ℕ
-log_text said = lines_text said ++ line_text (lines.End (entries said))
+abbrev pub replay_text : List Said → List ℕ
+replay_text said = lines_text said ++ line_text (lines.End (entries said))

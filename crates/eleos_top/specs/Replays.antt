@@ -12,11 +12,11 @@ use Rattle.eleos_host.specs.Stores.{Store, get_from, put_to, with_room}
 use Rattle.eleos_trace.specs.Machines as machines
 use Rattle.eleos_trace.specs.declared.trace.Line.{Line}
 use Rattle.eleos_trace.specs.declared.trace.Trace.{Trace}
-use Rattle.eleos_top.specs.declared.answer.Answer.{Answer}
-use Rattle.eleos_top.specs.declared.answer.Answer.TheVariants as answers
+use Rattle.eleos_top.specs.declared.response.Response.{Response}
+use Rattle.eleos_top.specs.declared.response.Response.TheVariants as answers
 use Rattle.eleos_meaning.specs.declared.meanings.Meaning.{Meaning}
 use Rattle.eleos_meaning.specs.declared.meanings.Meaning.TheVariants.{Nameless, Happens, Offends, Acts}
-use Rattle.eleos_top.specs.Log.{Said, log_text}
+use Rattle.eleos_top.specs.Log.{Said, replay_text}
 use Rattle.eleos_top.specs.Scenes.{Scene, all_after, is_done, meaning, opening_of, store_after, who_of}
 
 -- the blocks are what the host has at these places, as far as they go
@@ -44,20 +44,20 @@ module _ (k : Plan) (x : Seals) where
   }
 
   -- the line's event became an entry
-  pub record IsEntered (line : Line) (scene : Scene) (who : ℕ) (event : Event) (answer : Answer) (after : Scene) : Type 0 where
+  pub record IsEntered (line : Line) (scene : Scene) (who : ℕ) (event : Event) (answer : Response) (after : Scene) : Type 0 where
     pub e : Entry
     pub enters : Enters scene who event e
     pub answer_is : answer ≡ answers.Entered (length scene.past) e.reply (length (puts_of k x e scene.past))
     pub after_is : after ≡ scene_after line e scene
 
   -- no entry of the event is legal
-  pub record IsRefused (scene : Scene) (who : ℕ) (event : Event) (answer : Answer) (after : Scene) : Type 0 where
+  pub record IsRefused (scene : Scene) (who : ℕ) (event : Event) (answer : Response) (after : Scene) : Type 0 where
     pub never : (e : Entry) → Enters scene who event e → ⊥
     pub answer_is : answer ≡ answers.Refused (offence k x scene.past event)
     pub after_is : after ≡ scene
 
   -- a line with this meaning gets the answer, and leaves this scene after it
-  abbrev pub Gets : Meaning → Line → Scene → Answer → Scene → Type 0
+  abbrev pub Gets : Meaning → Line → Scene → Response → Scene → Type 0
   Gets Nameless line scene answer after = (answer ≡ answers.Skipped) × (after ≡ scene)
   Gets (Happens event) line scene answer after = IsEntered line scene (who_of k line.actor) event answer after ⊎ IsRefused scene (who_of k line.actor) event answer after
   Gets (Offends part) line scene answer after = (answer ≡ answers.Refused part) × (after ≡ scene)
@@ -66,7 +66,7 @@ module _ (k : Plan) (x : Seals) where
   -- the lines said are those of these lines of a trace, from the scene on, and this scene is the last
   abbrev pub Replays : List Line → Scene → List Said → Scene → Type 0
   Replays [] scene said last = (said ≡ []) × (last ≡ scene)
-  Replays (line ∷ lines) scene said last = (answer : Answer) × (after : Scene) × (rest : List Said)
+  Replays (line ∷ lines) scene said last = (answer : Response) × (after : Scene) × (rest : List Said)
       × (said ≡ record { line = line; answer = answer } ∷ rest) × Gets (meaning k scene line) line scene answer after × Replays lines after rest last
 
 -- the scene before the first command
@@ -78,7 +78,7 @@ pub record IsLogFrom (store : Store) (after : Option Store) (trace : Trace) (tex
   pub lines : List Said
   pub last : Scene
   pub replayed : Replays trace.plan (seals_by trace.key) trace.lines (opening_scene trace store) lines last
-  pub printed : text ≡ log_text lines
+  pub printed : text ≡ replay_text lines
   pub left : after ≡ Some last.store
   -- where no altered or replaced block passed, its calls are one run of plain memory
   pub one_run : RunsPlain trace.plan trace.key last.past

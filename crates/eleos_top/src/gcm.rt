@@ -8,7 +8,7 @@ ghost use Rattle.eleos_vectors.specs.Vectors.{vectors_in};
 ghost use Rattle.eleos_top.specs.Outcome.{PutsBy};
 
 use crate::input::{InputError, refused};
-use crate::streams::{ReadError, put_lines, read_all};
+use crate::streams::{ReadError, put_all, read_all};
 use crate::top::{is_only, refuse};
 use eleos_base::{Sink, Source, Status};
 use eleos_texts::{TraceRefused, Why};
@@ -44,10 +44,10 @@ pub fn gcm_top<S: Source, K: Sink>(
         Err(InputError::Failed) => return Status::ReadFault,
         Err(InputError::Memory) => return Status::Memory,
     };
-    let Ok(text) = answers(alloc, &vectors) else {
+    let Ok(text) = answers(alloc, vectors) else {
         return Status::Memory;
     };
-    match put_lines(sink, &text) {
+    match put_all(sink, &text) {
         Ok(()) => Status::Done,
         Err(_) => Status::WriteFault,
     }

@@ -1,12 +1,12 @@
 //! What the program does, from the bytes that come in to the bytes that go out.
 #![tactic(auto)]
 
-mod answer;
 mod callers;
 mod gcm;
 mod input;
 mod picking;
 mod replaying;
+mod response;
 mod running;
 mod said;
 mod scenes;

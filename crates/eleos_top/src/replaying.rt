@@ -14,7 +14,7 @@ use crate::streams::put_lines;
 use crate::top::{is_only, refuse};
 use eleos_base::{NoMemory, Sink, Source, Status};
 use eleos_host::{HostHand, HostPort, HostRoom};
-use eleos_report::push_end;
+use eleos_texts::printing::push_end;
 use eleos_trace::{Kind, Trace, places};
 use std::alloc::Global;
 
@@ -25,9 +25,8 @@ use std::alloc::Global;
 /// With status 0 the bytes put are the log of the trace, by what the host had before: each command
 /// that became an entry is legal by the machine's step over the blocks of the host, and where no
 /// altered or replaced block passed, the calls are one run of plain memory. The host then has what
-/// the
-/// commands left there. With another status nothing is put, the line that refuses the input, or a
-/// front.
+/// the commands left there. With another status nothing is put, the line that refuses the input, or
+/// a front.
 pub fn replay_top<S: Source, K: Sink, P: HostPort + HostHand + HostRoom>(
     alloc: Global,
     words: &[String],

@@ -1,7 +1,7 @@
 // What the host does by itself, what comes from it and what is put there.
 ghost use Rattle.std.specs.Prelude.{◌≡◌, All, length, map, option_map, IfOk, IfSome, if◌then◌else◌};
 ghost use Rattle.eleos_core.specs.Applying.{put_of};
-ghost use Rattle.eleos_host.specs.declared.hand.Answer.{Answer};
+ghost use Rattle.eleos_host.specs.declared.hand.ActAnswer.{ActAnswer};
 ghost use Rattle.eleos_host.specs.Blocks.{IsBlock};
 ghost use Rattle.eleos_host.specs.Stores.{get_from};
 ghost use Rattle.eleos_meaning.specs.Meanings.{IsAct};
@@ -16,7 +16,7 @@ use std::alloc::Global;
 /// Lets the host do this, and answers whether that did anything.
 pub fn act<P: HostPort + HostHand>(host: &mut P, act: Act) -> bool
     requires { IsAct act }
-    ensures did { P.did act (if result then Answer.Done else Answer.NothingKept) }
+    ensures did { P.did act (if result then ActAnswer.Done else ActAnswer.NothingKept) }
     ensures store { P.store host.new
         ≡ option_map (λ store. store_after act store) (P.store host.old) }
     ensures is_done { IfSome (P.store host.old) (λ store. result ≡ is_done act store) }

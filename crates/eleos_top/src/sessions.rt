@@ -12,8 +12,8 @@ ghost use Rattle.eleos_top.specs.Replays.{store_with};
 ghost use Rattle.eleos_top.specs.Scenes.{all_after, all_names, opening_of, who_of};
 ghost use Rattle.eleos_top.specs.Sessions.{AlwaysGoesOn, Answered, Happened, Stands, StandsAfter};
 
-use crate::answer::Answer;
 use crate::callers::{bind_answered, meaning_for, opening_tables};
+use crate::response::Response;
 use crate::scenes::{act, blocks_at, put_blocks};
 use eleos_base::{NoMemory, Plan};
 use eleos_core::{ApplyRefused, Core, Effect, Event};
@@ -69,7 +69,7 @@ impl Session {
         host: &mut P,
         plan: &Plan,
         line: &Line,
-    ) -> Result<Answer, NoMemory>
+    ) -> Result<Response, NoMemory>
         requires good { IsGood plan.now }
         requires given { MayGive plan.now line.now.actor line.now.command }
         requires stands { Stands plan.now (seals_by self.old.sealer) self.old }
@@ -83,10 +83,10 @@ impl Session {
     {
         let who = who_of(plan, line.actor);
         match meaning_for(alloc, plan, &self.names, who, line)? {
-            Meaning::Nameless => Ok(Answer::Skipped),
+            Meaning::Nameless => Ok(Response::Skipped),
             Meaning::Happens(event) => self.happen(alloc, host, who, &event, line),
-            Meaning::Offends(part) => Ok(Answer::Refused(part)),
-            Meaning::Acts(meant) => Ok(Answer::Acted(act(host, meant))),
+            Meaning::Offends(part) => Ok(Response::Refused(part)),
+            Meaning::Acts(meant) => Ok(Response::Acted(act(host, meant))),
         }
     }
 
@@ -98,7 +98,7 @@ impl Session {
         who: u32,
         event: &Event,
         line: &Line,
-    ) -> Result<Answer, NoMemory>
+    ) -> Result<Response, NoMemory>
         requires within { IsWithin self.old.machine.plan who event.now }
         requires room { self.old.stamps < 2 ^ 63 }
         ensures happened { IfOk result (λ answer.
@@ -113,7 +113,7 @@ impl Session {
         let blocks = blocks_at(alloc, host, needed.as_slice())?;
         match self.machine.apply(alloc, &self.sealer, who, event, &blocks) {
             Ok(effect) => self.enter(alloc, host, who, line, effect),
-            Err(ApplyRefused::Illegal { part }) => Ok(Answer::Refused(part)),
+            Err(ApplyRefused::Illegal { part }) => Ok(Response::Refused(part)),
             Err(ApplyRefused::NoMemory) => Err(NoMemory),
         }
     }
@@ -126,11 +126,11 @@ impl Session {
         who: u32,
         line: &Line,
         effect: Effect,
-    ) -> Result<Answer, NoMemory>
+    ) -> Result<Response, NoMemory>
         requires blocks { All (λ put. IsBlock put.block) effect.puts }
         requires room { self.old.stamps < 2 ^ 63 }
         ensures answer { IfOk result (λ answer. answer
-            ≡ Answer.Entered self.old.stamps effect.reply (length effect.puts)) }
+            ≡ Response.Entered self.old.stamps effect.reply (length effect.puts)) }
         ensures names { IfOk result (λ _. all_names self.new.names.items
             ≡ all_after who line.now.command effect.reply (all_names self.old.names.items)) }
         ensures stamps { IfOk result (λ _. self.new.stamps ≡ self.old.stamps + 1) }
@@ -145,7 +145,7 @@ impl Session {
         bind_answered(alloc, &mut self.names, who, &line.command, &reply)?;
         let stamp = self.stamps;
         self.stamps += 1;
-        Ok(Answer::Entered {
+        Ok(Response::Entered {
             stamp,
             reply,
             puts: puts.len() as u64,

@@ -10,9 +10,9 @@ use std::thread::Threads;
 
 /// A word, what comes in, and which takes and puts fail.
 #[derive(Clone, Copy)]
-pub struct Call {
+pub struct Call<'a> {
     pub word: &'static str,
-    pub input: &'static str,
+    pub input: &'a str,
     pub failing_take: Option<u64>,
     pub failing_put: Option<u64>,
 }
@@ -38,7 +38,7 @@ pub fn made<R: Threads + Wait + Sync, G: Gate + Sync>(
     rt: &R,
     alloc: Global,
     gate: &G,
-    call: Call,
+    call: Call<'_>,
 ) -> Result<Came, Fail> {
     let words = vec![in alloc; call.word.to_string(alloc)?]?;
     let failing = listed(alloc, call.failing_take)?;

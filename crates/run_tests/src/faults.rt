@@ -3,23 +3,20 @@
 
 use crate::calls::{Call, OpenGate, made};
 use eleos_base::Status;
+use std::alloc::{AllocError, Global};
 use std::test::*;
 
-const REPLAY: &str = "eleos 1 replay
-enclave 0 pages 4 frames 1
-spare 0
-caller 1 enclave 0
-wear 1000
-key 000102030405060708090a0b0c0d0e0f
-start
-c1 alloc a 1
-c1 write a 0 41
-c1 read a 0 1
-end
-";
+/// What comes in.
+#[derive(Clone, Copy)]
+enum Input {
+    /// A trace of the word that the call has.
+    Trace,
+    Vectors,
+    Refused,
+}
 
-const RUN: &str = "eleos 1 run
-enclave 0 pages 4 frames 1
+/// A trace of a caller behind its first line.
+const BEHIND: &str = "enclave 0 pages 4 frames 1
 spare 0
 caller 1 enclave 0
 wear 1000
@@ -40,22 +37,31 @@ const REFUSED: &str = "eleos 2 run\n";
 
 const NOTHING: &str = "";
 
+fn text_of(alloc: Global, word: &str, input: Input) -> Result<String, AllocError> {
+    match input {
+        Input::Trace => format!(in alloc; "eleos 1 {word}\n{BEHIND}"),
+        Input::Vectors => VECTORS.to_string(alloc),
+        Input::Refused => REFUSED.to_string(alloc),
+    }
+}
+
 /// A word, what comes in, and the number of the take that fails, from 0.
-const TAKES: [(&str, &str, u64); 6] = [
-    ("replay", REPLAY, 0),
-    ("replay", REPLAY, 1),
-    ("run", RUN, 0),
-    ("run", RUN, 1),
-    ("gcm", VECTORS, 0),
-    ("gcm", VECTORS, 1),
+const TAKES: [(&str, Input, u64); 6] = [
+    ("replay", Input::Trace, 0),
+    ("replay", Input::Trace, 1),
+    ("run", Input::Trace, 0),
+    ("run", Input::Trace, 1),
+    ("gcm", Input::Vectors, 0),
+    ("gcm", Input::Vectors, 1),
 ];
 
 #[test]
 fn a_failed_take_puts_nothing(rt: HostRuntime) -> Result<(), Fail> {
     for (word, input, failing) in TAKES {
+        let text = text_of(rt.alloc(), word, input)?;
         let call = Call {
             word,
-            input,
+            input: &text,
             failing_take: Some(failing),
             failing_put: None,
         };
@@ -70,46 +76,39 @@ fn a_failed_take_puts_nothing(rt: HostRuntime) -> Result<(), Fail> {
 }
 
 /// A word, what comes in, the number of the put that fails, the status, what was put before, and
-/// how many
-/// lines the log of a run has.
-const PUTS: [(&str, &str, u64, Status, &str, Option<usize>); 8] = [
-    ("replay", REPLAY, 0, Status::WriteFault, NOTHING, None),
+/// how many lines the log of a run has.
+const PUTS: [(&str, Input, u64, Status, &str, Option<usize>); 8] = [
+    ("replay", Input::Trace, 0, Status::WriteFault, NOTHING, None),
     (
         "replay",
-        REPLAY,
+        Input::Trace,
         2,
         Status::WriteFault,
         "0 c1 alloc a 1 = at 0\n1 c1 write a 0 41 = ok\n",
         None,
     ),
-    ("run", RUN, 0, Status::WriteFault, NOTHING, Some(4)),
+    ("run", Input::Trace, 0, Status::WriteFault, NOTHING, Some(4)),
     (
         "run",
-        RUN,
+        Input::Trace,
         2,
         Status::WriteFault,
         "0 c1 alloc a 1 = at 0\n1 c1 write a 0 41 = ok\n",
         Some(4),
     ),
-    (
-        "gcm",
-        VECTORS,
-        1,
-        Status::WriteFault,
-        "- 58e2fccefa7e3061367f1d57a4e7455a\n",
-        None,
-    ),
-    ("replay", REFUSED, 0, Status::Refused, NOTHING, None),
-    ("run", REFUSED, 0, Status::Refused, NOTHING, None),
-    ("gcm", REFUSED, 0, Status::Refused, NOTHING, None),
+    ("gcm", Input::Vectors, 0, Status::WriteFault, NOTHING, None),
+    ("replay", Input::Refused, 0, Status::Refused, NOTHING, None),
+    ("run", Input::Refused, 0, Status::Refused, NOTHING, None),
+    ("gcm", Input::Refused, 0, Status::Refused, NOTHING, None),
 ];
 
 #[test]
 fn a_failed_put_leaves_what_was_put_before(rt: HostRuntime) -> Result<(), Fail> {
     for (word, input, failing, status, put, lines) in PUTS {
+        let text = text_of(rt.alloc(), word, input)?;
         let call = Call {
             word,
-            input,
+            input: &text,
             failing_take: None,
             failing_put: Some(failing),
         };

@@ -31,25 +31,8 @@ c2 write note 0 44
 end
 ";
 
-/// The log without its stamps, by the caller that was held: the other one had its block first.
-const FIRST_HELD: &str = "c1 alloc a 1 = at 3072
-c1 write a 0 4142 = ok
-c1 read a 1 1 = got 42
-c1 share a = ok
-c2 alloc b 2000 = at 1024
-c2 write b 1024 43 = ok
-c2 read b 1024 2 = got 4300
-c2 read note 0 1025 = badrange
-c2 write note 0 44 = ok
-9
-";
-
-const SECOND_HELD: &str = "c1 alloc a 1 = at 1024
-c1 write a 0 4142 = ok
-c1 read a 1 1 = got 42
-c1 share a = ok
-c2 alloc b 2000 = at 2048
-c2 write b 1024 43 = ok
+/// What comes behind the commands that take blocks in the log, without its stamps.
+const BEHIND: &str = "c2 write b 1024 43 = ok
 c2 read b 1024 2 = got 4300
 c2 read note 0 1025 = badrange
 c2 write note 0 44 = ok
@@ -99,16 +82,28 @@ impl Gate for Meeting {
 
 #[test]
 fn two_callers_run_beside_each_other(rt: HostRuntime) -> Result<(), Fail> {
-    meet(&rt, rt.alloc(), 1, FIRST_HELD)?;
-    meet(&rt, rt.alloc(), 2, SECOND_HELD)
+    meet(&rt, rt.alloc(), 1, (3072, 1024))?;
+    meet(&rt, rt.alloc(), 2, (1024, 2048))
 }
 
-/// Both callers have to be there at a time.
+/// The log without its stamps, where the blocks of the two callers begin at these places.
+fn log_of(alloc: Global, (first, second): (u32, u32)) -> Result<String, AllocError> {
+    format!(in alloc;
+        "c1 alloc a 1 = at {first}
+c1 write a 0 4142 = ok
+c1 read a 1 1 = got 42
+c1 share a = ok
+c2 alloc b 2000 = at {second}
+{BEHIND}"
+    )
+}
+
+/// Both callers have to be there at a time. The one that was not held has its block first.
 fn meet<R: Threads + Wait + Sync + Abort>(
     rt: &R,
     alloc: Global,
     held: u32,
-    log: &str,
+    blocks: (u32, u32),
 ) -> Result<(), Fail> {
     let gate = Meeting::holding(held);
     let call = Call {
@@ -120,7 +115,10 @@ fn meet<R: Threads + Wait + Sync + Abort>(
     let came = made(rt, alloc, &gate, call)?;
     assert!(rt; !gate.is_missed.load(Ordering::SeqCst));
     assert_eq!(rt; came.status, Status::Done);
-    assert_eq!(rt; unstamped(alloc, came.put.as_str())?.as_str(), log);
+    assert_eq!(rt;
+        unstamped(alloc, came.put.as_str())?,
+        log_of(alloc, blocks)?
+    );
     Ok(())
 }
 

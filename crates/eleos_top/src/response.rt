@@ -4,7 +4,7 @@ use eleos_base::{Part, Reply};
 
 /// The answer to a line of a replay. Only one that is entered has a stamp.
 #[derive(Debug, Drop)]
-pub enum Answer {
+pub enum Response {
     /// The command's name has no address.
     Skipped,
     /// An entry of the machine's history, for which so many blocks were put at the host.
