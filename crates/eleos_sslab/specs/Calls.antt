@@ -1,5 +1,5 @@
 -- What each call on a slab asks of its memory, and what it leaves.
-use Rattle.std.specs.Prelude.{◌≡◌, ◌≢◌, ◌⊎◌, ℕ, List, [], ◌∷◌, length, Some, Result, Ok, Err, take}
+use Rattle.std.specs.Prelude.{◌≡◌, ◌≢◌, ◌⊎◌, ℕ, ◌+◌, ◌≤◌, List, [], ◌∷◌, length, Some, Result, Ok, Err, take}
 use Rattle.eleos_base.specs.declared.memory.Addr.{Addr}
 use Rattle.eleos_base.specs.declared.memory.Op.TheVariants as ops
 use Rattle.eleos_base.specs.declared.memory.Reply.{Reply}
@@ -39,6 +39,11 @@ abbrev pub KeepsObjects : Private → List SlabBlock → Private → Type 0
 KeepsObjects p blocks p' = (id : ObjId) → object p' blocks id ≡ object p blocks id
 
 module _ {O : Type 0} where
+  -- the memory has the owner that it had, and at most so many of its calls left were spent
+  pub record Costs (m : MemoryState O) (most : ℕ) (m' : MemoryState O) : Type 0 where
+    pub origin : m'.origin ≡ m.origin
+    pub left : m.left ≤ m'.left + most
+
   -- the object is there, and no other one is changed
   pub record HasStored (m : MemoryState O) (blocks : List SlabBlock) (bytes : List ℕ) (id : ObjId) (m' : MemoryState O) (blocks' : List SlabBlock) : Type 0 where
     pub len : len_of blocks' id ≡ length bytes

@@ -1,5 +1,5 @@
 // Objects by id, in slots of blocks.
-ghost use Rattle.std.specs.Prelude.{◌≡◌, ◌↔◌, ◌≤◌, ◌<◌, ◌≢◌, ◌^◌, ◌+◌, ℕ, length, replicate, take};
+ghost use Rattle.std.specs.Prelude.{◌≡◌, ◌↔◌, ◌≤◌, ◌<◌, ◌≢◌, ◌^◌, ℕ, length, replicate, take};
 ghost use Rattle.std.specs.Prelude.{slice_set, None, Some};
 ghost use Rattle.std.specs.Prelude.{IsTrue, IfOk, IfErr, IfSome, IfNone, OnOk, OnErr, Err};
 ghost use Rattle.eleos_base.specs.declared.memory.Op.TheVariants as ops;
@@ -57,7 +57,8 @@ impl SSlab {
     ghost use Rattle.eleos_sslab.specs.Slabs.{IsInSlot, IsSlab, KeepsOthers, address_of, block_at};
     ghost use Rattle.eleos_sslab.specs.Slabs.{len_of};
     ghost use Rattle.eleos_sslab.specs.Slabs.{NeedsSlot, object, with_object};
-    ghost use Rattle.eleos_sslab.specs.Calls.{FreesEmpty, HasReplaced, HasStored, KeepsObjects};
+    ghost use Rattle.eleos_sslab.specs.Calls.{Costs, FreesEmpty, HasReplaced, HasStored};
+    ghost use Rattle.eleos_sslab.specs.Calls.{KeepsObjects};
     ghost use Rattle.eleos_sslab.specs.Calls.{Moves, NewCalls, WritesHere};
     ghost use Rattle.eleos_sslab.specs.Calls.{PutCalls, get_reply};
 
@@ -264,7 +265,7 @@ impl SSlab {
         requires left { 3 ≤ (M.state mem.old).left }
         ensures calls { PutCalls (M.state mem.old) self.old bytes.now result
             (M.state mem.new) self.new }
-        ensures spent { (M.state mem.old).left ≤ (M.state mem.new).left + 3 }
+        ensures costs { Costs (M.state mem.old) 3 (M.state mem.new) }
         ensures ok { IfOk result (λ id. HasStored (M.state mem.old) self.old bytes.now id
             (M.state mem.new) self.new) }
         ensures new { IfOk result (λ id. len_of self.old id ≡ 0) }
@@ -330,7 +331,7 @@ impl SSlab {
         requires held { IsHeld self.old id }
         requires left { 1 ≤ (M.state mem.old).left }
         ensures calls { FreesEmpty (M.state mem.old) self.new id.block (M.state mem.new) }
-        ensures spent { (M.state mem.old).left ≤ (M.state mem.new).left + 1 }
+        ensures costs { Costs (M.state mem.old) 1 (M.state mem.new) }
         ensures gone { len_of self.new id ≡ 0 }
         ensures others { KeepsOthers (owned (M.state mem.old)) self.old id
             (owned (M.state mem.new)) self.new }
@@ -421,7 +422,7 @@ impl SSlab {
             → WritesHere (M.state mem.old) self.old bytes.now id result (M.state mem.new) }
         ensures moves { size_for (length bytes.now) ≢ Some (block_at self.old id.block).size
             → Moves (M.state mem.old) self.old bytes.now id result (M.state mem.new) self.new }
-        ensures spent { (M.state mem.old).left ≤ (M.state mem.new).left + 3 }
+        ensures costs { Costs (M.state mem.old) 3 (M.state mem.new) }
         ensures ok { IfOk result (λ new. HasReplaced (M.state mem.old) self.old bytes.now id new
             (M.state mem.new) self.new) }
         ensures bad_size { result ≡ Err refusals.BadSize ↔ (size_for (length bytes.now) ≡ None) }

@@ -35,5 +35,5 @@ returns-clause-slab g c = let m = g.M.SubMemory.state c.args.mem.now in let m' =
     subst (λ (z : List SlabBlock). IsSlab (owned m') z) (sym c.set_len.ensures)
     (taken_slab m c.args.self.now c.args.id c.requires.slab c.requires.held m' (subst (λ (z : List SlabBlock). FreesEmpty m z c.args.id.block m') c.set_len.ensures c.free_empty.ensures))
 
-pub returns-clause-spent : goal.returns-clause-spent
-returns-clause-spent g c = take_spent (g.M.SubMemory.state c.args.mem.now) (g.M.SubMemory.state c.free_empty.new.mem) c.set_len.new.self c.args.id.block c.free_empty.ensures
+pub returns-clause-costs : goal.returns-clause-costs
+returns-clause-costs g c = take_spent (g.M.SubMemory.state c.args.mem.now) (g.M.SubMemory.state c.free_empty.new.mem) c.set_len.new.self c.args.id.block c.free_empty.ensures
