@@ -8,7 +8,8 @@ ghost use Rattle.eleos_host.specs.Taps.{block_of};
 
 use eleos_base::Sealer;
 use eleos_host::{
-    Act, Answer, BLOCK_BITS, BLOCK_BYTES, HostHand, HostPort, HostSpace, SharedHost, Tap, ToldHost,
+    Act, ActAnswer, BLOCK_BITS, BLOCK_BYTES, HostHand, HostPort, HostSpace, SharedHost, Tap,
+    ToldHost,
 };
 use std::process::Abort;
 use std::test::Fail;
@@ -65,7 +66,7 @@ fn firsts_of<P: HostPort>(host: &mut P) -> [u8; 3] {
     [first_at(host, 0), first_at(host, 1), first_at(host, 2)]
 }
 
-fn perform<H: HostHand>(host: &mut H, act: Act) -> Answer {
+fn perform<H: HostHand>(host: &mut H, act: Act) -> ActAnswer {
     match act {
         Act::Flip { place, bit } if bit < BLOCK_BITS => host.flip(place, bit),
         Act::Flip { .. } => {}
@@ -73,11 +74,11 @@ fn perform<H: HostHand>(host: &mut H, act: Act) -> Answer {
         Act::Keep { place } => host.keep(place),
         Act::Restore { place } => {
             if !host.restore(place) {
-                return Answer::NothingKept;
+                return ActAnswer::NothingKept;
             }
         }
     }
-    Answer::Done
+    ActAnswer::Done
 }
 
 // What a port of its own gives for the place.
@@ -99,20 +100,20 @@ fn write_to<H: HostSpace>(space: &H, place: u32, block: &[u8])
 
 // Acts with their answers, and the first bytes of places 0 and 1 after each, and of place 2, which
 // isn't there. They begin as 1, 2 and 0.
-const ACTS: [(Act, Answer, [u8; 3]); 13] = [
-    (Act::Flip { place: 0, bit: 1 }, Answer::Done, [3, 2, 0]),
-    (Act::Flip { place: 0, bit: 1 }, Answer::Done, [1, 2, 0]),
-    (Act::Restore { place: 0 }, Answer::NothingKept, [1, 2, 0]),
-    (Act::Keep { place: 0 }, Answer::Done, [1, 2, 0]),
-    (Act::Swap { a: 0, b: 1 }, Answer::Done, [2, 1, 0]),
-    (Act::Restore { place: 1 }, Answer::NothingKept, [2, 1, 0]),
-    (Act::Restore { place: 0 }, Answer::Done, [1, 1, 0]),
-    (Act::Flip { place: 0, bit: 0 }, Answer::Done, [0, 1, 0]),
-    (Act::Restore { place: 0 }, Answer::Done, [1, 1, 0]),
-    (Act::Flip { place: 2, bit: 0 }, Answer::Done, [1, 1, 0]),
-    (Act::Keep { place: 2 }, Answer::Done, [1, 1, 0]),
-    (Act::Restore { place: 2 }, Answer::NothingKept, [1, 1, 0]),
-    (Act::Swap { a: 1, b: 2 }, Answer::Done, [1, 0, 0]),
+const ACTS: [(Act, ActAnswer, [u8; 3]); 13] = [
+    (Act::Flip { place: 0, bit: 1 }, ActAnswer::Done, [3, 2, 0]),
+    (Act::Flip { place: 0, bit: 1 }, ActAnswer::Done, [1, 2, 0]),
+    (Act::Restore { place: 0 }, ActAnswer::NothingKept, [1, 2, 0]),
+    (Act::Keep { place: 0 }, ActAnswer::Done, [1, 2, 0]),
+    (Act::Swap { a: 0, b: 1 }, ActAnswer::Done, [2, 1, 0]),
+    (Act::Restore { place: 1 }, ActAnswer::NothingKept, [2, 1, 0]),
+    (Act::Restore { place: 0 }, ActAnswer::Done, [1, 1, 0]),
+    (Act::Flip { place: 0, bit: 0 }, ActAnswer::Done, [0, 1, 0]),
+    (Act::Restore { place: 0 }, ActAnswer::Done, [1, 1, 0]),
+    (Act::Flip { place: 2, bit: 0 }, ActAnswer::Done, [1, 1, 0]),
+    (Act::Keep { place: 2 }, ActAnswer::Done, [1, 1, 0]),
+    (Act::Restore { place: 2 }, ActAnswer::NothingKept, [1, 1, 0]),
+    (Act::Swap { a: 1, b: 2 }, ActAnswer::Done, [1, 0, 0]),
 ];
 
 #[test]

@@ -1,19 +1,17 @@
 // Two callers of one machine: the calls on blocks and the accesses, in turn, each with what it
 // says.
-ghost use Rattle.std.specs.Prelude.{◌≡◌, [], length, IfOk, IfSome};
-ghost use Rattle.eleos_turn.specs.Hands.{dealt, fresh};
-ghost use Rattle.eleos_machine.specs.Closing.{hands_of};
+ghost use Rattle.std.specs.Prelude.{◌≡◌, [], length};
+ghost use Rattle.eleos_turn.specs.Hands.{fresh};
 ghost use Rattle.eleos_machine.specs.Machines.{all_cells, plan_at};
 
+use crate::setups::{tap_of, two_callers};
 use eleos_alloc::{alloc, free, share};
-use eleos_base::{
-    AccessRefused, Addr, AllocRefused, BlockPlan, BlockRefused, EnclavePlan, List, Plan,
-};
+use eleos_base::{AccessRefused, Addr, AllocRefused, BlockRefused};
 use eleos_direct::{TryRefused, read, try_read, try_write, write};
 use eleos_gcm::Gcm;
 use eleos_host::{HostHand, HostSpace, SharedHost, SharedPort, Tap};
 use eleos_machine::{Machine, Pass};
-use std::alloc::{AllocError, Global};
+use std::alloc::Global;
 use std::marker::Model;
 use std::process::Abort;
 use std::sync::Wait;
@@ -22,67 +20,8 @@ use std::test::*;
 // The cell of the second page.
 const SECOND_PAGE: u32 = 6;
 
-// Two enclaves of one page each, and two callers in the second one. There both may use the first
-// two
-// sub-pages, which have the places 4 and 5, and caller 2 alone the third.
-fn plan_of_two(alloc: Global) -> Result<Plan, AllocError>
-    ensures callers { IfOk result (λ plan. length plan.callers ≡ 2) }
-    ensures cells { IfOk result (λ plan. all_cells plan ≡ 7) }
-{
-    let page = EnclavePlan {
-        pages: 1,
-        frames: 0,
-    };
-    Ok(Plan {
-        enclaves: List::of(Vec::from_slice(alloc, &[page, page])?),
-        spare: 0,
-        callers: List::of(Vec::from_slice(alloc, &[1, 1])?),
-        wear: 2,
-        blocks: List::of(Vec::from_slice(alloc, &[block(2048, 0), block(1024, 2)])?),
-    })
-}
-
-fn block(bytes: u32, owner: u32) -> BlockPlan {
-    BlockPlan {
-        enclave: 1,
-        bytes,
-        owner,
-    }
-}
-
 fn address(at: u32) -> Addr {
     Addr { enclave: 1, at }
-}
-
-// The machine of the plan, with a pass for each of the two callers, for the swapper and for the
-// balloon.
-fn machine_of_two(alloc: Global) -> Result<(Machine<Gcm>, Vec<Pass>), Fail>
-    ensures callers { IfOk result (λ made. length (plan_at made.0).callers ≡ 2) }
-    ensures cells { IfOk result (λ made. all_cells (plan_at made.0) ≡ 7) }
-    ensures passes { IfOk result (λ made. hands_of made.1.items ≡ dealt made.0 0 4) }
-{
-    let plan = plan_of_two(alloc)?;
-    let Ok(sealer) = Gcm::new(&[7; 16]) else {
-        return Err("key".into());
-    };
-    match Machine::make(alloc, &plan, sealer) {
-        Ok(made) => Ok(made),
-        Err(_) => Err("machine".into()),
-    }
-}
-
-// The passes of two callers, before those of the swapper and of the balloon.
-fn two_passes(machine: &Machine<Gcm>, passes: Vec<Pass>) -> Option<(Pass, Pass)>
-    requires { hands_of passes.items ≡ dealt machine.now 0 4 }
-    ensures { IfSome result
-        (λ p. (p.0.hand ≡ fresh machine.now 1) × (p.1.hand ≡ fresh machine.now 2)) }
-{
-    let _ = machine;
-    let mut passes = passes;
-    passes.truncate(2);
-    let two = passes.pop()?;
-    let one = passes.pop()?;
-    Some((one, two))
 }
 
 // What a caller does, at an offset in its enclave.
@@ -183,14 +122,8 @@ fn two_callers_call_in_turn(rt: HostRuntime) -> Result<(), Fail> {
 }
 
 fn call_over<R: Wait + Abort>(rt: &R, alloc: Global, host: &SharedHost) -> Result<(), Fail> {
-    let space = &host;
-    let Ok(mut tap) = Tap::make(alloc, space.port(1)) else {
-        return Err("tap".into());
-    };
-    let (machine, passes) = machine_of_two(alloc)?;
-    let Some((one, two)) = two_passes(&machine, passes) else {
-        return Err("passes".into());
-    };
+    let mut tap = tap_of(alloc, host)?;
+    let (machine, one, two, _) = two_callers(alloc)?;
     call_in_turn(rt, &machine, host, &mut tap, one, two);
     Ok(())
 }
@@ -204,7 +137,7 @@ fn call_in_turn<R: Wait + Abort>(
     two: Pass,
 )
     requires callers { length (plan_at machine.now).callers ≡ 2 }
-    requires cells { all_cells (plan_at machine.now) ≡ 7 }
+    requires cells { all_cells (plan_at machine.now) ≡ 9 }
     requires one { one.hand ≡ fresh machine.now 1 }
     requires two { two.hand ≡ fresh machine.now 2 }
 {
@@ -284,93 +217,46 @@ impl<'a> Model for Caller<'a> {
 
     ghost invariant = { λ c. (c.pass.hand.home ≡ c.machine.now)
         × IsCaller (plan_at c.machine.now) c.pass.hand.number × (c.pass.hand.turns ≡ [])
-        × (all_cells (plan_at c.machine.now) ≡ 7) };
+        × (all_cells (plan_at c.machine.now) ≡ 9) };
 }
 
 impl<'a> Caller<'a> {
+    // Acts, where a stamp is left for it.
     fn acts<R: Wait>(&mut self, rt: &R, tap: &mut Tap<SharedPort<'_>>, act: Act) -> Said {
+        let machine = self.machine;
+        let pass = &mut self.pass;
+        if pass.left() == 0 {
+            return Said::Spent;
+        }
+        let mut bytes = [0; 4];
         match act {
-            Act::Alloc(bytes) => self.allocs(rt, bytes),
-            Act::Free(at) => self.frees(rt, at),
-            Act::Share(at) => self.shares(rt, at),
-            Act::Read(at, len) => self.reads(rt, tap, at, len),
-            Act::Write(at, bytes) => self.writes(rt, tap, at, bytes),
-            Act::TryRead(at, len) => self.tries_to_read(tap, at, len),
-            Act::TryWrite(at, bytes) => self.tries_to_write(tap, at, bytes),
+            Act::Alloc(size) => allotted(alloc(rt, machine, pass, size)),
+            Act::Free(at) => changed(free(rt, machine, pass, address(at))),
+            Act::Share(at) => changed(share(rt, machine, pass, address(at))),
+            Act::Read(at, len) => {
+                let buf = &mut bytes[..len.min(4)];
+                let answer = read(rt, machine, pass, tap, address(at), buf);
+                answered(answer, Said::Got(bytes))
+            }
+            Act::Write(at, text) => {
+                answered(
+                    write(rt, machine, pass, tap, address(at), &text),
+                    Said::Done,
+                )
+            }
+            Act::TryRead(at, len) => {
+                let buf = &mut bytes[..len.min(4)];
+                let answer = try_read(machine, pass, tap, address(at), buf);
+                tried(answer, Said::Got(bytes))
+            }
+            Act::TryWrite(at, text) => {
+                tried(
+                    try_write(machine, pass, tap, address(at), &text),
+                    Said::Done,
+                )
+            }
             Act::Flip(_) => Said::Done,
         }
-    }
-
-    fn allocs<R: Wait>(&mut self, rt: &R, bytes: u32) -> Said {
-        if self.pass.left() == 0 {
-            return Said::Spent;
-        }
-        match alloc(rt, self.machine, &mut self.pass, bytes) {
-            Ok(at) => Said::At(at.at),
-            Err(refused) => Said::NotAllocated(refused),
-        }
-    }
-
-    fn frees<R: Wait>(&mut self, rt: &R, at: u32) -> Said {
-        if self.pass.left() == 0 {
-            return Said::Spent;
-        }
-        changed(free(rt, self.machine, &mut self.pass, address(at)))
-    }
-
-    fn shares<R: Wait>(&mut self, rt: &R, at: u32) -> Said {
-        if self.pass.left() == 0 {
-            return Said::Spent;
-        }
-        changed(share(rt, self.machine, &mut self.pass, address(at)))
-    }
-
-    fn reads<R: Wait>(
-        &mut self,
-        rt: &R,
-        tap: &mut Tap<SharedPort<'_>>,
-        at: u32,
-        len: usize,
-    ) -> Said {
-        if self.pass.left() == 0 {
-            return Said::Spent;
-        }
-        let mut bytes = [0; 4];
-        let buf = &mut bytes[..len.min(4)];
-        let answer = read(rt, self.machine, &mut self.pass, tap, address(at), buf);
-        answered(answer, Said::Got(bytes))
-    }
-
-    fn writes<R: Wait>(
-        &mut self,
-        rt: &R,
-        tap: &mut Tap<SharedPort<'_>>,
-        at: u32,
-        bytes: [u8; 4],
-    ) -> Said {
-        if self.pass.left() == 0 {
-            return Said::Spent;
-        }
-        let answer = write(rt, self.machine, &mut self.pass, tap, address(at), &bytes);
-        answered(answer, Said::Done)
-    }
-
-    fn tries_to_read(&mut self, tap: &mut Tap<SharedPort<'_>>, at: u32, len: usize) -> Said {
-        if self.pass.left() == 0 {
-            return Said::Spent;
-        }
-        let mut bytes = [0; 4];
-        let buf = &mut bytes[..len.min(4)];
-        let answer = try_read(self.machine, &mut self.pass, tap, address(at), buf);
-        tried(answer, Said::Got(bytes))
-    }
-
-    fn tries_to_write(&mut self, tap: &mut Tap<SharedPort<'_>>, at: u32, bytes: [u8; 4]) -> Said {
-        if self.pass.left() == 0 {
-            return Said::Spent;
-        }
-        let answer = try_write(self.machine, &mut self.pass, tap, address(at), &bytes);
-        tried(answer, Said::Done)
     }
 
     // What an act of the other says while this caller has the turn of the second page.
@@ -386,6 +272,13 @@ impl<'a> Caller<'a> {
         let said = other.acts(rt, tap, act);
         machine.give(pass, SECOND_PAGE, taken.value);
         said
+    }
+}
+
+fn allotted(answer: Result<Addr, AllocRefused>) -> Said {
+    match answer {
+        Ok(at) => Said::At(at.at),
+        Err(refused) => Said::NotAllocated(refused),
     }
 }
 

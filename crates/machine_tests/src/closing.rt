@@ -3,6 +3,7 @@ ghost use Rattle.std.specs.Prelude.{◌≡◌, length, IfOk, IfSome};
 ghost use Rattle.eleos_turn.specs.Hands.{dealt, fresh};
 ghost use Rattle.eleos_machine.specs.Closing.{hands_of};
 
+use crate::setups::machine_of;
 use eleos_base::{BlockPlan, EnclavePlan, List, Plan, Sealer};
 use eleos_gcm::Gcm;
 use eleos_machine::{CloseRefused, CloseWhy, Machine, Pass, PlanField, RestPass, fault_of};
@@ -76,12 +77,7 @@ fn the_first_bad_field_is_named(rt: HostRuntime) -> Result<(), Fail> {
 fn a_machine_is_closed_with_all_its_passes(rt: HostRuntime) -> Result<(), Fail> {
     let alloc = rt.alloc();
     let plan = plan_of(alloc, &[1], &[0], 9, &[])?;
-    let Ok(sealer) = Gcm::new(&[7; 16]) else {
-        return Err("key".into());
-    };
-    let Ok((machine, passes)) = Machine::make(alloc, &plan, sealer) else {
-        return Err("machine".into());
-    };
+    let (machine, passes) = machine_of(alloc, &plan)?;
     can_be_shared(&machine);
     let Some((caller, swapper, balloon)) = three_passes(&machine, passes) else {
         return Err("passes".into());

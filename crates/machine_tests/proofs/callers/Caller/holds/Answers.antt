@@ -11,7 +11,7 @@ use Rattle.machine_tests.proofs.callers.Caller.holds.Goals as goal
 
 -- a caller's pass of this machine that has no turn
 abbrev IsIdle : Site → PassState → Type 0
-IsIdle z s = (s.hand.home ≡ z) × IsCaller (plan_at z) s.hand.number × (s.hand.turns ≡ []) × (all_cells (plan_at z) ≡ 7)
+IsIdle z s = (s.hand.home ≡ z) × IsCaller (plan_at z) s.hand.number × (s.hand.turns ≡ []) × (all_cells (plan_at z) ≡ 9)
 
 -- one turn was taken and given back
 idle_again : (z : Site) (s mid : PassState) (cell word : ℕ) (value : Cell) → TookTurn cell word s value mid → IsIdle z s → IsIdle z (gave mid cell)
