@@ -23,7 +23,7 @@ use Rattle.eleos_trace.specs.Lines.{later, word_of, command_of, said, line_of}
 use Rattle.eleos_trace.specs.Verbs.{verb_of}
 use Rattle.eleos_trace.specs.WholeHeader.{plan_of}
 use Rattle.eleos_texts.proofs.Inversion.{bind_ok, guard_ok, no_value, ok_is}
-use Rattle.eleos_trace.proofs.Given.{IsGiven, given, free_may, share_may, name_ok, offset_ok, page_and_frame_ok, place_ok, alloc_ok, read_ok, write_ok, move_ok, flip_ok, swap_ok}
+use Rattle.eleos_trace.proofs.Given.{IsGiven, given, free_may, share_may, name_ok, offset_ok, page_and_frame_ok, place_ok, alloc_ok, read_ok, write_ok, call_ok, call_no, move_ok, flip_ok, swap_ok}
 
 -- a command that is not built is never read
 later_no : (tests : Result (Unit {0}) Why) (word : Word) → later tests ≡ Ok word → ⊥
@@ -62,7 +62,7 @@ module _ (header : Header) (seen : Seen) (who : actors.Actor) (args : List (List
   run_ok verbs.WriteAt e built = absurd cc
   run_ok verbs.SwapRound e built = absurd cc
   run_ok verbs.Balloon e built = absurd cc
-  run_ok verbs.Call e built = absurd cc
+  run_ok verbs.Call e built = call_ok header seen who args word e
 
   -- of a replay
   replay_ok : (verb : Verb) → word_of header seen who (givers_of Replay verb) args verb ≡ Ok word → IsGiven Replay header seen who word
@@ -114,7 +114,7 @@ module _ (header : Header) (seen : Seen) (who : actors.Actor) (args : List (List
   replay_ok verbs.WriteAt e = absurd (later_no _ word e)
   replay_ok verbs.SwapRound e = absurd (later_no _ word e)
   replay_ok verbs.Balloon e = absurd (later_no _ word e)
-  replay_ok verbs.Call e = absurd (later_no _ word e)
+  replay_ok verbs.Call e = absurd (call_no header seen who args word e)
 
   -- of a trace of either kind
   word_ok : (kind : Kind) (verb : Verb) → word_of header seen who (givers_of kind verb) args verb ≡ Ok word → is_built kind verb ≡ true → IsGiven kind header seen who word

@@ -1,19 +1,21 @@
 -- What the tests of a command leave: there was room for it, and its actor may give it.
-use Rattle.std.proofs.Common.{◌≡◌, ℕ, ◌<◌, ◌≤◌, List, [], ◌∷◌, Option, Bool, true, length, nat_le, ◌&&◌, Result, Ok, subst}
+use Rattle.std.proofs.Common.{◌≡◌, ℕ, ◌<◌, ◌≤◌, List, [], ◌∷◌, Option, Some, None, Bool, true, false, length, nat_le, ◌&&◌, Result, Ok, subst}
 use Rattle.eleos_trace.specs.declared.givers.Givers.{Givers}
 use Rattle.eleos_trace.specs.declared.givers.Givers.TheVariants as givers
 use Rattle.eleos_trace.specs.declared.header.Header.{Header}
 use Rattle.eleos_trace.specs.declared.seen.Seen.{Seen}
 use Rattle.eleos_trace.specs.declared.word.Actor as actors
 use Rattle.eleos_trace.specs.declared.word.Actor.TheVariants.{Swapper, Host}
+use Rattle.eleos_trace.specs.declared.word.CallWord.{CallWord}
 use Rattle.eleos_trace.specs.declared.word.Word.{Word}
-use Rattle.eleos_trace.specs.declared.word.Word.TheVariants.{Alloc, Free, Share, Read, Write, Move, Flip, SwapPlaces}
+use Rattle.eleos_trace.specs.declared.word.Word.TheVariants.{Alloc, Free, Share, Read, Write, Move, Flip, SwapPlaces, Call}
 use Rattle.eleos_texts.specs.declared.why.Why.{Why}
 use Rattle.eleos_texts.specs.declared.why.Why.TheVariants.{Form, Many, Actor, Range, Enclave}
 use Rattle.eleos_texts.specs.Fields.{is_numeral, number, is_below, is_up_to, most_u32, is_name, is_hex, bytes_in}
 use Rattle.eleos_texts.specs.Reasons.{unless, one, two, three}
 use Rattle.eleos_base.specs.Places.{all_frames, all_pages}
 use Rattle.eleos_trace.specs.Machines.{places}
+use Rattle.eleos_trace.specs.Calls.{call_named, call_of, most_call, with_call}
 use Rattle.eleos_trace.specs.Commands.{alloc_of, name_of, offset_of, read_of, write_of}
 use Rattle.eleos_trace.specs.Frames.{is_move, is_frame_move, is_owner, owner, owners_of, page_and_frame_of, move_of}
 use Rattle.eleos_trace.specs.Givers.{is_giver, admit}
@@ -25,8 +27,8 @@ use Rattle.eleos_trace.specs.declared.trace.Kind.TheVariants.{Run, Replay}
 use Rattle.eleos_base.specs.declared.plan.Plan.{Plan}
 use Rattle.eleos_trace.specs.Kinds.{MayGiveIn}
 use Rattle.eleos_trace.specs.Replays.{IsCallerOf, IsMove}
-use Rattle.eleos_texts.proofs.Inversion.{bind_ok, guard_ok, ok_is}
-use Rattle.eleos_trace.proofs.Permits.{room_of, both, le_of, caller_of, swapper_of, balloon_actor, host_of, below_of, two_below, place_and_bit, move_ok_owners}
+use Rattle.eleos_texts.proofs.Inversion.{bind_ok, guard_ok, no_value, ok_is}
+use Rattle.eleos_trace.proofs.Permits.{room_of, both, le_of, up_to_of, caller_of, swapper_of, balloon_actor, host_of, below_of, two_below, place_and_bit, move_ok_owners}
 
 -- there was room for the command, and the actor may give it in a trace of this kind
 pub record IsGiven (kind : Kind) (header : Header) (seen : Seen) (who : actors.Actor) (word : Word) : Type 0 where
@@ -56,6 +58,15 @@ module _ (plan : Plan) (who : actors.Actor) where
   write_may : (kind : Kind) (name : List ℕ) (offset : ℕ) (bytes : List ℕ) → IsCallerOf plan who → length bytes ≤ 2048 → MayGiveIn kind plan who (Write name offset bytes)
   write_may Run name offset bytes caller few = (caller, few)
   write_may Replay name offset bytes caller few = (caller, few)
+
+-- where something is made of a call, a word named it
+with_call_ok : {A : Type 0} (named : Option CallWord) (f : CallWord → Result A Why) (x : A) → with_call named f ≡ Ok x → (call : CallWord) × (f call ≡ Ok x)
+with_call_ok None f x e = absurd (no_value Form x e)
+with_call_ok (Some call) f x e = (call, e)
+
+-- no test says that nobody is somebody
+nobody : false ≡ true → ⊥
+nobody test = cc
 
 module _ (header : Header) (seen : Seen) (who : actors.Actor) where
   -- a command of which there is no more to say
@@ -136,6 +147,26 @@ module _ (header : Header) (seen : Seen) (who : actors.Actor) where
           let name = guard_ok _ _ _ word range.1 in
           let few : length (bytes_in a.0.2) ≤ 2048 = (both (is_up_to most_u32 a.0.1) (nat_le (length (bytes_in a.0.2)) 2048) (λ test. test) (le_of _ _) range.0).1 in
           given kind (Write a.0.0 (number a.0.1) (bytes_in a.0.2)) word admitted.1 (write_may (plan_of header) who kind a.0.0 (number a.0.1) (bytes_in a.0.2) (caller_of header who admitted.2) few) name.1
+
+      -- the same of a call in a run, which has at most 1024 bytes and as much room
+      pub call_ok : call_of header seen who givers.Callers args ≡ Ok word → IsGiven Run header seen who word
+      call_ok e =
+          let a = bind_ok (three args) _ word e in
+          let c = with_call_ok (call_named a.0.0) _ word a.2 in
+          let b = bind_ok (admit header seen who givers.Callers (is_hex a.0.1 && is_numeral a.0.2)) _ word c.1 in
+          let admitted = admit_ok givers.Callers _ b.0 b.1 in
+          let range = guard_ok _ _ _ word b.2 in
+          let limits = both (nat_le (length (bytes_in a.0.1)) most_call) (is_up_to most_call a.0.2) (le_of _ _) (up_to_of most_call a.0.2) range.0 in
+          given Run (Call c.0 (bytes_in a.0.1) (number a.0.2)) word admitted.1 (caller_of header who admitted.2, limits.0, limits.1) range.1
+
+      -- nobody gives a call in a replay
+      pub call_no : call_of header seen who givers.Nobody args ≡ Ok word → ⊥
+      call_no e =
+          let a = bind_ok (three args) _ word e in
+          let c = with_call_ok (call_named a.0.0) _ word a.2 in
+          let b = bind_ok (admit header seen who givers.Nobody (is_hex a.0.1 && is_numeral a.0.2)) _ word c.1 in
+          let admitted = admit_ok givers.Nobody _ b.0 b.1 in
+          nobody admitted.2
 
       -- the same of a move in a replay: the balloon gives it, of a frame between the pool and an enclave of the plan
       pub move_ok : move_of header seen who givers.Balloon args ≡ Ok word → IsGiven Replay header seen who word

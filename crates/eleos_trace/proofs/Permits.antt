@@ -68,6 +68,10 @@ host_of Host test = refl
 pub below_of : (limit : ℕ) (text : List ℕ) → is_below limit text ≡ true → number text < limit
 below_of limit text test = grind (arith, nat_tests)
 
+-- a number that is read as one up to a limit is at most that
+pub up_to_of : (limit : ℕ) (text : List ℕ) → is_up_to limit text ≡ true → number text ≤ limit
+up_to_of limit text test = grind (arith, nat_tests)
+
 pub bit_of : (text : List ℕ) → is_up_to last_bit text ≡ true → number text < 8192
 bit_of text test = grind (arith, nat_tests)
 

@@ -66,7 +66,7 @@ givers_of kind SwapRound = in_run kind givers.CallersOrSwapper
 givers_of kind Balloon = in_run kind givers.CallersOrBalloon
 givers_of kind Call = in_run kind givers.Callers
 
--- a command of a run that is built is one of a caller on its memory; of a replay all are built that anybody may give
+-- a command of a run that is built is one of a caller on its memory, or a call of the host; of a replay all are built that anybody may give
 abbrev pub is_built : Kind → Verb → Bool
 is_built Replay verb = true
 is_built Run Alloc = true
@@ -74,6 +74,7 @@ is_built Run Free = true
 is_built Run Share = true
 is_built Run Read = true
 is_built Run Write = true
+is_built Run Call = true
 is_built Run verb = false
 
 -- the tests of every command, which come before its own: its form, whether there is room for one more, and whether the actor may give it

@@ -6,23 +6,25 @@ use Rattle.eleos_base.specs.Limits.{most_header_blocks}
 use Rattle.eleos_base.specs.Plans.{IsGood}
 use Rattle.eleos_trace.specs.declared.word.Actor as actors
 use Rattle.eleos_trace.specs.declared.word.Word.{Word}
-use Rattle.eleos_trace.specs.declared.word.Word.TheVariants.{Alloc, Free, Share, Read, Write}
+use Rattle.eleos_trace.specs.declared.word.Word.TheVariants.{Alloc, Free, Share, Read, Write, Call}
 use Rattle.eleos_trace.specs.declared.trace.Kind.{Kind}
 use Rattle.eleos_trace.specs.declared.trace.Kind.TheVariants.{Run, Replay}
 use Rattle.eleos_trace.specs.declared.trace.Line.{Line}
 use Rattle.eleos_trace.specs.declared.trace.Trace.{Trace}
 use Rattle.eleos_trace.specs.Blocks.{EachFindsRoom}
+use Rattle.eleos_trace.specs.Calls.{most_call}
 use Rattle.eleos_trace.specs.Commands.{most_bytes}
 use Rattle.eleos_trace.specs.Replays.{IsCallerOf, MayGive}
 use Rattle.eleos_trace.specs.Seen.{most_commands}
 
--- a command of a run is one of these five, and a caller of the plan gives it
+-- a command of a run is one of these six, and a caller of the plan gives it
 abbrev pub MayRun : Plan → actors.Actor → Word → Type 0
 MayRun plan who (Alloc name bytes) = IsCallerOf plan who
 MayRun plan who (Free name) = IsCallerOf plan who
 MayRun plan who (Share name) = IsCallerOf plan who
 MayRun plan who (Read name offset len) = IsCallerOf plan who
 MayRun plan who (Write name offset bytes) = IsCallerOf plan who × (length bytes ≤ most_bytes)
+MayRun plan who (Call call bytes room) = IsCallerOf plan who × (length bytes ≤ most_call) × (room ≤ most_call)
 MayRun plan who _ = ⊥
 
 -- the actor may give the command in a trace of this kind

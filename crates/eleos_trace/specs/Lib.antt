@@ -1,5 +1,6 @@
 pub mod Actors
 pub mod Blocks
+pub mod Calls
 pub mod Commands
 pub mod Frames
 pub mod Givers

@@ -13,12 +13,13 @@ use Rattle.eleos_texts.specs.declared.why.Why.{Why}
 use Rattle.eleos_texts.specs.declared.why.Why.TheVariants.{Form, Later}
 use Rattle.eleos_texts.specs.Reasons.{with_two_and_more, ◌>>=◌}
 use Rattle.eleos_trace.specs.Actors.{actor_of}
+use Rattle.eleos_trace.specs.Calls.{call_of}
 use Rattle.eleos_trace.specs.Commands.{alloc_of, name_of, offset_of, read_of, write_of}
 use Rattle.eleos_trace.specs.Frames.{page_and_frame_of, move_of}
 use Rattle.eleos_trace.specs.Givers.{givers_of, is_built}
 use Rattle.eleos_trace.specs.Host.{flip_of, swap_of, place_of}
 use Rattle.eleos_trace.specs.Pointers.{point_of, copy_of, pointer_of, step_of, read_at_of, write_at_of}
-use Rattle.eleos_trace.specs.Rounds.{swap_round_of, balloon_of, call_of}
+use Rattle.eleos_trace.specs.Rounds.{swap_round_of, balloon_of}
 use Rattle.eleos_trace.specs.Verbs.{verb_of}
 
 -- no command, since it is not built: refused as its tests say, or else as later
@@ -51,7 +52,7 @@ word_of header seen who may args verbs.ReadAt = later (read_at_of header seen wh
 word_of header seen who may args verbs.WriteAt = later (write_at_of header seen who may args)
 word_of header seen who may args verbs.SwapRound = later (swap_round_of header seen who may args)
 word_of header seen who may args verbs.Balloon = later (balloon_of header seen who may args)
-word_of header seen who may args verbs.Call = later (call_of header seen who may args)
+word_of header seen who may args verbs.Call = call_of header seen who may args
 
 -- that command, where it is built for the kind
 abbrev pub command_of : Header → Seen → Actor → Verb → List (List ℕ) → Result Word Why

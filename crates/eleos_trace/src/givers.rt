@@ -87,7 +87,7 @@ pub(crate) fn is_built(kind: Kind, verb: Verb) -> bool
     match kind {
         Kind::Run => matches!(
             verb,
-            Verb::Alloc | Verb::Free | Verb::Share | Verb::Read | Verb::Write
+            Verb::Alloc | Verb::Free | Verb::Share | Verb::Read | Verb::Write | Verb::Call
         ),
         Kind::Replay => true,
     }

@@ -2,6 +2,7 @@
 #![tactic(auto)]
 
 mod actors;
+mod calls;
 mod commands;
 mod frames;
 mod givers;
@@ -22,4 +23,4 @@ pub use actors::actor_of;
 pub use machines::places;
 pub use reading::{line_count, parse, parse_prefix};
 pub use trace::{Kind, Line, Trace};
-pub use word::{Actor, Word};
+pub use word::{Actor, CallWord, Word};

@@ -5,13 +5,14 @@ ghost use Rattle.eleos_trace.specs.Lines.{line_of, command_of, word_of};
 ghost use Rattle.eleos_texts.specs.Reasons.{Reads};
 
 use crate::actors::actor_of;
+use crate::calls::call_of;
 use crate::commands::{alloc_of, name_of, offset_of, read_of, write_of};
 use crate::frames::{move_of, page_and_frame_of};
 use crate::givers::{Asked, givers_of, is_built};
 use crate::header::Header;
 use crate::host::{flip_of, place_of, swap_of};
 use crate::pointers::{copy_of, point_of, pointer_of, read_at_of, step_of, write_at_of};
-use crate::rounds::{balloon_of, call_of, swap_round_of};
+use crate::rounds::{balloon_of, swap_round_of};
 use crate::seen::Seen;
 use crate::verbs::{Verb, verb_of};
 use crate::{Actor, Line, Word};
@@ -113,6 +114,7 @@ fn word_of(alloc: Global, asked: &Asked, verb: Verb, args: &[&[u8]]) -> Result<W
             let place = place_of(asked, args)?;
             return Ok(Word::Restore { place });
         }
+        Verb::Call => return call_of(alloc, asked, args),
         Verb::Point => point_of(asked, args)?,
         Verb::Copy => copy_of(asked, args)?,
         Verb::Drop | Verb::Link | Verb::Unlink => pointer_of(asked, args)?,
@@ -121,7 +123,6 @@ fn word_of(alloc: Global, asked: &Asked, verb: Verb, args: &[&[u8]]) -> Result<W
         Verb::WriteAt => write_at_of(alloc, asked, args)?,
         Verb::SwapRound => swap_round_of(asked, args)?,
         Verb::Balloon => balloon_of(asked, args)?,
-        Verb::Call => call_of(alloc, asked, args)?,
     }
     refused(Why::Later)
 }

@@ -1,20 +1,16 @@
-// The tests of sweeps, of balloon lines and of calls, which are not built yet.
+// The tests of sweeps and of balloon lines, which are not built yet.
 ghost use Rattle.std.specs.Prelude.{◌≡◌, ◌≤◌, List, ℕ, map, length};
 ghost use Rattle.eleos_base.specs.Plans.{IsGood};
-ghost use Rattle.eleos_trace.specs.Rounds.{is_own, is_call, swap_round_of, balloon_of, call_of};
+ghost use Rattle.eleos_trace.specs.Rounds.{is_own, swap_round_of, balloon_of};
 ghost use Rattle.eleos_texts.specs.Reasons.{Reads};
 
 use crate::Actor;
 use crate::givers::Asked;
 use crate::machines::{enclave_in, enclave_of};
 use eleos_base::{MOST_FRAMES, Plan};
-use eleos_texts::counts::{three, two};
-use eleos_texts::fields::{hex_bytes, is_number, is_numeral, is_up_to};
+use eleos_texts::counts::two;
+use eleos_texts::fields::{is_number, is_numeral, is_up_to};
 use eleos_texts::{LineRefused, Why, refused};
-use std::alloc::Global;
-
-/// Bytes of a call, and of the room for its reply.
-const MOST_CALL: usize = 1024;
 
 /// Whether it is an enclave that is declared, and of a caller its own.
 fn is_own(plan: &Plan, actor: Actor, text: &[u8]) -> bool
@@ -27,17 +23,6 @@ fn is_own(plan: &Plan, actor: Actor, text: &[u8]) -> bool
             enclave_in(plan.enclaves.as_slice(), text).is_some()
         }
     }
-}
-
-/// Whether it is a call of the table.
-fn is_call(word: &[u8]) -> bool
-    ensures { result ≡ is_call word.now }
-{
-    word == b"echo".as_slice()
-        || word == b"put".as_slice()
-        || word == b"get".as_slice()
-        || word == b"cut".as_slice()
-        || word == b"clock".as_slice()
 }
 
 /// `swap ENCLAVE LOW`
@@ -70,22 +55,6 @@ pub(crate) fn balloon_of(asked: &Asked, args: &[&[u8]]) -> Result<(), LineRefuse
     }
     if !is_own(&asked.header.plan, asked.actor, enclave) {
         return refused(Why::Enclave);
-    }
-    Ok(())
-}
-
-/// `call WORD HEX ROOM`
-pub(crate) fn call_of(alloc: Global, asked: &Asked, args: &[&[u8]]) -> Result<(), LineRefused>
-    ensures { Reads (λ x. x) result (call_of asked.now.header.now asked.now.seen.now
-        asked.now.actor asked.now.givers (map (λ arg. arg.now) args.now)) }
-{
-    let (call, hex, room) = three(args)?;
-    let Some(bytes) = hex_bytes(alloc, hex)? else {
-        return refused(Why::Form);
-    };
-    asked.admit(is_call(call) && is_numeral(room))?;
-    if bytes.len() > MOST_CALL || !is_up_to(room, MOST_CALL as u64) {
-        return refused(Why::Range);
     }
     Ok(())
 }

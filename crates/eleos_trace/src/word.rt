@@ -12,6 +12,21 @@ pub enum Actor {
     Host,
 }
 
+/// What a call of the host does.
+#[derive(Clone, Copy, Debug, PartialEq, Eq)]
+pub enum CallWord {
+    /// Gives the bytes back.
+    Echo,
+    /// Keeps a value under a key.
+    Put,
+    /// Gives the value of a key.
+    Get,
+    /// Lets a key go.
+    Cut,
+    /// Tells how many jobs were done.
+    Clock,
+}
+
 /// A command. Lengths and offsets are in bytes, offsets from the start of the named block.
 /// Pages, frames and places are numbered over the whole machine; a place keeps one sub-page.
 #[derive(Debug, Drop)]
@@ -72,5 +87,11 @@ pub enum Word {
     },
     Restore {
         place: u32,
+    },
+    /// A call of the host: the bytes of the job, and the room for the reply in bytes.
+    Call {
+        call: CallWord,
+        bytes: Bytes,
+        room: u32,
     },
 }
