@@ -17,13 +17,17 @@ use Rattle.hex.proofs.HexLemmas.{decode_of-encode_lower, decode_of-ok}
 use Rattle.eleos_base.specs.declared.memory.Looked.{Looked}
 use Rattle.eleos_trace.specs.declared.word.Actor.{Actor}
 use Rattle.eleos_trace.specs.declared.word.Actor.TheVariants.{Caller, Swapper, Balloon, Host}
+use Rattle.eleos_trace.specs.declared.word.CallWord.{CallWord}
+use Rattle.eleos_trace.specs.declared.word.CallWord.TheVariants as calls
+use Rattle.eleos_trace.specs.declared.word.CallWord.TheVariants.{Echo, Get, Cut, Clock}
 use Rattle.eleos_trace.specs.declared.word.Word.{Word}
-use Rattle.eleos_trace.specs.declared.word.Word.TheVariants.{Alloc, Free, Share, Read, Write, Tie, Untie, Fill, Evict, Move, Flip, SwapPlaces, Keep, Restore}
+use Rattle.eleos_trace.specs.declared.word.Word.TheVariants.{Alloc, Free, Share, Read, Write, Tie, Untie, Fill, Evict, Move, Flip, SwapPlaces, Keep, Restore, Call}
 use Rattle.eleos_texts.specs.Fields.{is_blank, is_newline, is_name, is_name_char}
 use Rattle.eleos_texts.specs.Texts.{hex_text}
+use Rattle.eleos_trace.specs.Calls.{call_text}
 use Rattle.eleos_trace.specs.Spelling.{fields, actor_text, owner_text}
 use Rattle.eleos_report.specs.declared.answer.Answer.{Answer}
-use Rattle.eleos_report.specs.declared.answer.Answer.TheVariants.{At, Okay, Got, Put, BadSize, NoSpace, NotABlock, NotYours, BadRange, Unallocated, Worn, Tampered, NoFrame, Illegal, Nothing, Skipped}
+use Rattle.eleos_report.specs.declared.answer.Answer.TheVariants.{At, Okay, Got, Put, BadSize, NoSpace, NotABlock, NotYours, BadRange, Unallocated, Worn, Tampered, NoFrame, Illegal, Replied, WrongId, TooLong, BadStatus, Nothing, Skipped}
 use Rattle.eleos_base.specs.declared.memory.Part.{Part}
 use Rattle.eleos_base.specs.declared.memory.Part.TheVariants.{Present, Frame, Absent, Linked, Owner, Untied}
 use Rattle.eleos_report.specs.Log.{looked_text, part_text, block_fields, answer_fields, stamp_text}
@@ -126,6 +130,13 @@ plain_actor Swapper is = refl
 plain_actor Balloon is = refl
 plain_actor Host is = refl
 
+plain_call : (call : CallWord) → IsPlain (call_text call)
+plain_call Echo = refl
+plain_call calls.Put = refl
+plain_call Get = refl
+plain_call Cut = refl
+plain_call Clock = refl
+
 plain_part : (part : Part) → IsPlain (part_text part)
 plain_part Present = refl
 plain_part Frame = refl
@@ -159,6 +170,7 @@ plain_fields (Flip place bit) has = (refl, (plain_short place has.0, (plain_shor
 plain_fields (SwapPlaces a b) has = (refl, (plain_short a has.0, (plain_short b has.1, tt)))
 plain_fields (Keep place) has = (refl, (plain_short place has, tt))
 plain_fields (Restore place) has = (refl, (plain_short place has, tt))
+plain_fields (Call call bytes room) has = (refl, (plain_call call, (plain_hex bytes has.0, (plain_short room has.1, tt))))
 
 plain_block : (block : Option (List ℕ)) → IfSome block IsBlock → ArePlain (block_fields block)
 plain_block None is = tt
@@ -184,6 +196,10 @@ plain_answer (Worn sub) has = (refl, (plain_short sub has, tt))
 plain_answer (Tampered sub block) has = (refl, (plain_short sub has.0, plain_block block has.1))
 plain_answer (NoFrame sweep) has = (refl, plain_sweep sweep has)
 plain_answer (Illegal part) has = (refl, (plain_part part, tt))
+plain_answer (Replied status bytes) has = (refl, (plain_decimal status has.0, (plain_hex bytes has.1, tt)))
+plain_answer (WrongId seen) has = (refl, (plain_decimal seen has, tt))
+plain_answer (TooLong seen) has = (refl, (plain_decimal seen has, tt))
+plain_answer (BadStatus seen) has = (refl, (plain_decimal seen has, tt))
 plain_answer Nothing has = (refl, tt)
 plain_answer Skipped has = (refl, tt)
 

@@ -1,9 +1,12 @@
 -- A command that is printed is read again.
-use Rattle.std.proofs.Common.{◌≡◌, ℕ, List, [], ◌∷◌, Ok, true, refl}
+use Rattle.std.proofs.Common.{◌≡◌, ℕ, List, [], ◌∷◌, Some, Ok, true, refl}
 use Rattle.std.specs.Fmt.{decimal}
+use Rattle.eleos_trace.specs.declared.word.CallWord.{CallWord}
+use Rattle.eleos_trace.specs.declared.word.CallWord.TheVariants.{Echo, Put, Get, Cut, Clock}
 use Rattle.eleos_trace.specs.declared.word.Word.{Word}
-use Rattle.eleos_trace.specs.declared.word.Word.TheVariants.{Alloc, Free, Share, Read, Write, Tie, Untie, Fill, Evict, Move, Flip, SwapPlaces, Keep, Restore}
+use Rattle.eleos_trace.specs.declared.word.Word.TheVariants.{Alloc, Free, Share, Read, Write, Tie, Untie, Fill, Evict, Move, Flip, SwapPlaces, Keep, Restore, Call}
 use Rattle.eleos_texts.specs.Reasons.{one, two, three, one_and_more}
+use Rattle.eleos_trace.specs.Calls.{call_named, call_text}
 use Rattle.eleos_trace.specs.Spelling.{fields}
 use Rattle.eleos_trace.specs.declared.trace.Kind.{Kind}
 use Rattle.eleos_report.specs.Commands.{name_alone, name_and_number, number_alone, two_numbers, command_in, is_command}
@@ -27,6 +30,13 @@ two_numbers-again : (a b : ℕ) → IsShort a → IsShort b → two_numbers (dec
 unfolding two
 two_numbers-again a b fits_a fits_b = rw (short_again a fits_a, short_again b fits_b) refl
 
+call_again : (call : CallWord) → call_named (call_text call) ≡ Some call
+call_again Echo = refl
+call_again Put = refl
+call_again Get = refl
+call_again Cut = refl
+call_again Clock = refl
+
 -- the words of a printed command are read as that command, in a log of a kind that has such commands
 pub command_again : (kind : Kind) (command : Word) → is_command kind command ≡ true → HasFields command → command_in kind (fields command) ≡ Ok command
 unfolding one_and_more three
@@ -44,3 +54,4 @@ command_again kind (Flip place bit) is has = rw (two_numbers-again place bit has
 command_again kind (SwapPlaces a b) is has = rw (two_numbers-again a b has.0 has.1, is) refl
 command_again kind (Keep place) is has = rw (number_alone-again place has, is) refl
 command_again kind (Restore place) is has = rw (number_alone-again place has, is) refl
+command_again kind (Call call bytes room) is has = rw (call_again call, bytes_again bytes has.0, short_again room has.1, is) refl

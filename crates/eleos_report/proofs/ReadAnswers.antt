@@ -5,16 +5,16 @@ use Rattle.std.specs.List.{AllByRecursion}
 use Rattle.eleos_base.specs.declared.memory.Looked.{Looked}
 use Rattle.eleos_texts.specs.declared.why.Why.TheVariants.{Form}
 use Rattle.eleos_texts.specs.Fields.{is, most_u32}
-use Rattle.eleos_texts.specs.Reasons.{one, one_and_more, with_one, with_one_and_more}
+use Rattle.eleos_texts.specs.Reasons.{one, two, one_and_more, with_one, with_one_and_more}
 use Rattle.eleos_trace.specs.declared.trace.Kind.{Kind}
 use Rattle.eleos_report.specs.declared.answer.Answer.{Answer}
-use Rattle.eleos_report.specs.declared.answer.Answer.TheVariants.{At, Okay, Got, Put, BadSize, NoSpace, NotABlock, NotYours, BadRange, Unallocated, Worn, NoFrame, Illegal, Nothing, Skipped}
-use Rattle.eleos_report.specs.Fields.{number_of, bytes_of, block_of, looked_of}
+use Rattle.eleos_report.specs.declared.answer.Answer.TheVariants.{At, Okay, Got, Put, BadSize, NoSpace, NotABlock, NotYours, BadRange, Unallocated, Worn, NoFrame, Illegal, Replied, WrongId, TooLong, BadStatus, Nothing, Skipped}
+use Rattle.eleos_report.specs.Fields.{most_u64, number_of, bytes_of, block_of, looked_of}
 use Rattle.eleos_report.specs.Commands.{number_alone}
-use Rattle.eleos_report.specs.Answers.{is_reply, part_of, sweep_of, told_block_of, tampered_of, plain_of, other_answer_of, answer_of, answer_in}
-use Rattle.eleos_report.specs.Grammar.{IsShort, HasParts, IsLooked, IsBlock}
+use Rattle.eleos_report.specs.Answers.{is_reply, part_of, sweep_of, told_block_of, tampered_of, plain_of, long_alone, replied_of, call_answer_of, other_answer_of, answer_of, answer_in}
+use Rattle.eleos_report.specs.Grammar.{IsShort, IsLong, HasParts, IsLooked, IsBlock}
 use Rattle.hex.specs.Hex.{IsBytes}
-use Rattle.eleos_report.proofs.ReadFields.{step, any_step, tested, either, short_is, bytes_are, block_is, looked_is}
+use Rattle.eleos_report.proofs.ReadFields.{step, any_step, tested, either, short_is, long_is, bytes_are, block_is, looked_is}
 use Rattle.eleos_report.proofs.ReadCommands.{number_alone_is}
 
 abbrev AreLooked : List Looked → Type 0
@@ -48,14 +48,29 @@ plain_is word =
     (either HasParts (is (codes "none") word) (Ok Nothing) _ tt
     (either HasParts (is (codes "skipped") word) (Ok Skipped) (Err Form) tt tt)))))))
 
+long_alone_is : (args : List (List ℕ)) → IfOk (long_alone args) IsLong
+long_alone_is args = any_step IsLong (one args) (number_of most_u64) long_is
+
+replied_is : (args : List (List ℕ)) → IfOk (replied_of args) HasParts
+replied_is args = any_step HasParts (two args) _ (λ x.
+    step IsLong HasParts (number_of most_u64 x.0) _ (long_is x.0) (λ status fits.
+    step IsBytes HasParts (bytes_of x.1) _ (bytes_are x.1) (λ bytes are. (fits, are))))
+
 module _ (word : List ℕ) (args : List (List ℕ)) where
+  call_answer_is : IfOk (call_answer_of word args) HasParts
+  call_answer_is =
+      either HasParts (is (codes "reply") word) (replied_of args) _ (replied_is args)
+      (either HasParts (is (codes "wrongid") word) _ _ (step IsLong HasParts (long_alone args) (λ seen. Ok (WrongId seen)) (long_alone_is args) (λ seen fits. fits))
+      (either HasParts (is (codes "toolong") word) _ _ (step IsLong HasParts (long_alone args) (λ seen. Ok (TooLong seen)) (long_alone_is args) (λ seen fits. fits))
+      (either HasParts (is (codes "badstatus") word) _ (Err Form) (step IsLong HasParts (long_alone args) (λ seen. Ok (BadStatus seen)) (long_alone_is args) (λ seen fits. fits)) tt)))
+
   other_answer_is : IfOk (other_answer_of word args) HasParts
   other_answer_is =
       either HasParts (is (codes "got") word) _ _ (step IsBytes HasParts (with_one bytes_of args) (λ bytes. Ok (Got bytes)) (any_step IsBytes (one args) bytes_of bytes_are) (λ bytes are. are))
       (either HasParts (is (codes "tampered") word) (tampered_of args) _ (tampered_is args)
       (either HasParts (is (codes "noframe") word) _ _ (step AreLooked HasParts (sweep_of args) (λ sweep. Ok (NoFrame sweep)) (sweep_is args) (λ sweep are. are))
       (either HasParts (is (codes "illegal") word) _ _ (any_step HasParts (with_one part_of args) (λ part. Ok (Illegal part)) (λ part. tt))
-      (either HasParts (eqb (length args) 0) (plain_of word) (Err Form) (plain_is word) tt))))
+      (either HasParts (eqb (length args) 0) (plain_of word) (call_answer_of word args) (plain_is word) call_answer_is))))
 
   answer_of_is : IfOk (answer_of word args) HasParts
   answer_of_is =

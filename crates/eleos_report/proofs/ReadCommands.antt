@@ -1,14 +1,17 @@
 -- What the readers of commands give.
-use Rattle.std.proofs.Common.{◌≡◌, ℕ, List, Option, Ok, Err, true, codes}
+use Rattle.std.proofs.Common.{◌≡◌, ℕ, List, Option, Some, None, Result, Ok, Err, true, codes}
 use Rattle.std.specs.Prelude.{IfOk, IfSome}
+use Rattle.eleos_texts.specs.declared.why.Why.{Why}
 use Rattle.eleos_texts.specs.declared.why.Why.TheVariants.{Form}
+use Rattle.eleos_trace.specs.Calls.{call_named, with_call}
+use Rattle.eleos_trace.specs.declared.word.CallWord.{CallWord}
 use Rattle.eleos_trace.specs.declared.word.Word.{Word}
-use Rattle.eleos_trace.specs.declared.word.Word.TheVariants.{Alloc, Free, Share, Tie, Untie, Fill, Evict, Move, Flip, SwapPlaces, Keep, Restore}
+use Rattle.eleos_trace.specs.declared.word.Word.TheVariants.{Alloc, Free, Share, Tie, Untie, Fill, Evict, Move, Flip, SwapPlaces, Keep, Restore, Call}
 use Rattle.eleos_texts.specs.Fields.{is, most_u32}
 use Rattle.eleos_texts.specs.Reasons.{one, two, three, one_and_more, with_one_and_more}
 use Rattle.eleos_trace.specs.declared.trace.Kind.{Kind}
 use Rattle.eleos_report.specs.Fields.{number_of, name_of, bytes_of, optional_of}
-use Rattle.eleos_report.specs.Commands.{is_command, is_move, name_alone, name_and_number, number_alone, two_numbers, read_of, write_of, move_of, host_command_of, frame_command_of, command_of, command_in}
+use Rattle.eleos_report.specs.Commands.{is_command, is_move, name_alone, name_and_number, number_alone, two_numbers, read_of, write_of, call_of, move_of, host_command_of, frame_command_of, command_of, command_in}
 use Rattle.eleos_report.specs.Grammar.{IsShort, IsName, HasFields}
 use Rattle.hex.specs.Hex.{IsBytes}
 use Rattle.eleos_report.proofs.ReadFields.{step, any_step, tested, either, short_is, name_is, bytes_are, owner_is}
@@ -50,6 +53,16 @@ write_is args = any_step HasFields (three args) _ (λ x.
     step IsShort HasFields (number_of most_u32 x.1) _ (short_is x.1) (λ offset offset_fits.
     step IsBytes HasFields (bytes_of x.2) _ (bytes_are x.2) (λ bytes are. (named, offset_fits, are)))))
 
+named_is : (named : Option CallWord) (f : CallWord → Result Word Why) → ((call : CallWord) → IfOk (f call) HasFields) → IfOk (with_call named f) HasFields
+named_is None f is = tt
+named_is (Some call) f is = is call
+
+call_is : (args : List (List ℕ)) → IfOk (call_of args) HasFields
+call_is args = any_step HasFields (three args) _ (λ x.
+    named_is (call_named x.0) _ (λ call.
+    step IsBytes HasFields (bytes_of x.1) _ (bytes_are x.1) (λ bytes are.
+    step IsShort HasFields (number_of most_u32 x.2) _ (short_is x.2) (λ room fits. (are, fits)))))
+
 abbrev IsOwner : Option ℕ → Type 0
 IsOwner owner = IfSome owner IsShort
 
@@ -82,7 +95,8 @@ module _ (verb : List ℕ) (args : List (List ℕ)) where
       (either HasFields (is (codes "free") verb) _ _ (step IsName HasFields (name_alone args) (λ name. Ok (Free name)) (name_alone_is args) (λ name named. named))
       (either HasFields (is (codes "share") verb) _ _ (step IsName HasFields (name_alone args) (λ name. Ok (Share name)) (name_alone_is args) (λ name named. named))
       (either HasFields (is (codes "read") verb) (read_of args) _ (read_is args)
-      (either HasFields (is (codes "write") verb) (write_of args) (frame_command_of verb args) (write_is args) frame_command_is))))
+      (either HasFields (is (codes "write") verb) (write_of args) _ (write_is args)
+      (either HasFields (is (codes "call") verb) (call_of args) (frame_command_of verb args) (call_is args) frame_command_is)))))
 
 -- a command with its fields, of the kind
 abbrev pub IsCommand : Kind → Word → Type 0

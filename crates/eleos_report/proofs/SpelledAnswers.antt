@@ -9,17 +9,17 @@ use Rattle.eleos_base.specs.declared.memory.Part.TheVariants.{Present, Frame, Ab
 use Rattle.eleos_texts.specs.declared.why.Why.TheVariants.{Form}
 use Rattle.eleos_trace.specs.declared.trace.Kind.{Kind}
 use Rattle.eleos_texts.specs.Fields.{is, most_u32}
-use Rattle.eleos_texts.specs.Reasons.{one, one_and_more, with_one, with_one_and_more}
+use Rattle.eleos_texts.specs.Reasons.{one, two, one_and_more, with_one, with_one_and_more}
 use Rattle.eleos_texts.specs.Texts.{hex_text}
 use Rattle.eleos_report.specs.declared.answer.Answer.{Answer}
-use Rattle.eleos_report.specs.declared.answer.Answer.TheVariants.{At, Okay, Got, Put, BadSize, NoSpace, NotABlock, NotYours, BadRange, Unallocated, Worn, NoFrame, Illegal, Nothing, Skipped}
-use Rattle.eleos_report.specs.Fields.{formed, number_of, bytes_of, block_of, looked_of}
+use Rattle.eleos_report.specs.declared.answer.Answer.TheVariants.{At, Okay, Got, Put, BadSize, NoSpace, NotABlock, NotYours, BadRange, Unallocated, Worn, NoFrame, Illegal, Replied, WrongId, TooLong, BadStatus, Nothing, Skipped}
+use Rattle.eleos_report.specs.Fields.{formed, most_u64, number_of, bytes_of, block_of, looked_of}
 use Rattle.eleos_report.specs.Commands.{number_alone}
-use Rattle.eleos_report.specs.Answers.{is_reply, part_of, sweep_of, told_block_of, tampered_of, plain_of, other_answer_of, answer_of, answer_in}
+use Rattle.eleos_report.specs.Answers.{is_reply, part_of, sweep_of, told_block_of, tampered_of, plain_of, long_alone, replied_of, call_answer_of, other_answer_of, answer_of, answer_in}
 use Rattle.eleos_report.specs.Log.{looked_text, part_text, block_fields, answer_fields}
 use Rattle.eleos_report.proofs.ReadFields.{step, tested}
 use Rattle.eleos_report.proofs.SpelledHex.{lower}
-use Rattle.eleos_report.proofs.SpelledFields.{when, weaker, verb_is, one_is, one_and_more_are, short_spelled, bytes_spelled, block_spelled, looked_spelled}
+use Rattle.eleos_report.proofs.SpelledFields.{when, weaker, verb_is, one_is, two_are, one_and_more_are, short_spelled, long_spelled, bytes_spelled, block_spelled, looked_spelled}
 use Rattle.eleos_report.proofs.SpelledCommands.{lowers, both, alone, verb_step, verb_all, number_alone_spelled}
 
 part_spelled : (word : List ℕ) → IfOk (part_of word) (λ part. lower word ≡ part_text part)
@@ -97,13 +97,32 @@ module _ (word : List ℕ) (args : List (List ℕ)) where
   part_alone = step (λ a. args ≡ a ∷ []) (λ part. lowers args ≡ part_word part) (one args) part_of (one_is args) (λ a are.
       weaker (λ part. lower a ≡ part_text part) (λ part. lowers args ≡ part_word part) (part_of a) (part_spelled a) (λ part same. ap lowers are ∙ ap alone same))
 
+  long_spelled_alone : IfOk (long_alone args) (λ n. lowers args ≡ number_word n)
+  long_spelled_alone = step (λ a. args ≡ a ∷ []) (λ n. lowers args ≡ number_word n) (one args) (number_of most_u64) (one_is args) (λ a are.
+      weaker (λ n. lower a ≡ decimal n) (λ n. lowers args ≡ number_word n) (number_of most_u64 a) (long_spelled a) (λ n same. ap lowers are ∙ ap alone same))
+
+  replied_spelled : IfOk (replied_of args) (λ a. codes "reply" ∷ lowers args ≡ answer_fields a)
+  replied_spelled =
+      let P : Answer → Type 0 = λ a. codes "reply" ∷ lowers args ≡ answer_fields a in
+      step (λ x. args ≡ x.0 ∷ x.1 ∷ []) P (two args) _ (two_are args) (λ x are.
+      step (λ n. lower x.0 ≡ decimal n) P (number_of most_u64 x.0) _ (long_spelled x.0) (λ status status_same.
+      step (λ bytes. lower x.1 ≡ hex_text bytes) P (bytes_of x.1) _ (bytes_spelled x.1) (λ bytes bytes_same.
+      ap (λ ws. codes "reply" ∷ lowers ws) are ∙ (rw (status_same, bytes_same) refl))))
+
+  call_answer_spelled : IfOk (call_answer_of word args) AreParts
+  call_answer_spelled =
+      when AreParts (is (codes "reply") word) (replied_of args) _ (verb_all answer_fields (codes "reply") word args (replied_of args) refl replied_spelled)
+      (when AreParts (is (codes "wrongid") word) _ _ (verb_step answer_fields number_word (codes "wrongid") word args (long_alone args) (λ seen. WrongId seen) refl long_spelled_alone (λ seen. refl))
+      (when AreParts (is (codes "toolong") word) _ _ (verb_step answer_fields number_word (codes "toolong") word args (long_alone args) (λ seen. TooLong seen) refl long_spelled_alone (λ seen. refl))
+      (when AreParts (is (codes "badstatus") word) _ (Err Form) (verb_step answer_fields number_word (codes "badstatus") word args (long_alone args) (λ seen. BadStatus seen) refl long_spelled_alone (λ seen. refl)) tt)))
+
   other_answer_spelled : IfOk (other_answer_of word args) AreParts
   other_answer_spelled =
       when AreParts (is (codes "got") word) _ _ (verb_step answer_fields hex_word (codes "got") word args (with_one bytes_of args) (λ bytes. Got bytes) refl bytes_alone (λ bytes. refl))
       (when AreParts (is (codes "tampered") word) (tampered_of args) _ (verb_all answer_fields (codes "tampered") word args (tampered_of args) refl (tampered_spelled args))
       (when AreParts (is (codes "noframe") word) _ _ (verb_step answer_fields sweep_words (codes "noframe") word args (sweep_of args) (λ sweep. NoFrame sweep) refl (sweep_spelled args) (λ sweep. refl))
       (when AreParts (is (codes "illegal") word) _ _ (verb_step answer_fields part_word (codes "illegal") word args (with_one part_of args) (λ part. Illegal part) refl part_alone (λ part. refl))
-      (when AreParts (eqb (length args) 0) (plain_of word) (Err Form) (λ h. weaker (λ a. lower word ∷ [] ≡ answer_fields a) AreParts (plain_of word) (plain_spelled word) (λ a same. ap (λ ws. lower word ∷ lowers ws) (none_left args h) ∙ same)) tt))))
+      (when AreParts (eqb (length args) 0) (plain_of word) (call_answer_of word args) (λ h. weaker (λ a. lower word ∷ [] ≡ answer_fields a) AreParts (plain_of word) (plain_spelled word) (λ a same. ap (λ ws. lower word ∷ lowers ws) (none_left args h) ∙ same)) call_answer_spelled))))
 
   answer_of_spelled : IfOk (answer_of word args) AreParts
   answer_of_spelled =

@@ -1,18 +1,21 @@
 -- A command that is read is the one that is printed, but that digits of hex may be capitals.
-use Rattle.std.proofs.Common.{◌≡◌, ℕ, List, [], ◌∷◌, map, Result, Ok, Err, true, refl, sym, ap, ◌∙◌, codes}
-use Rattle.std.specs.Prelude.{IfOk}
+use Rattle.std.proofs.Common.{◌≡◌, ℕ, List, [], ◌∷◌, map, Option, Some, None, Bool, true, false, cond, Result, Ok, Err, refl, sym, ap, ◌∙◌, codes}
+use Rattle.std.specs.Prelude.{IfOk, IfSome}
 use Rattle.std.specs.Fmt.{decimal}
 use Rattle.eleos_texts.specs.declared.why.Why.{Why}
 use Rattle.eleos_texts.specs.declared.why.Why.TheVariants.{Form}
+use Rattle.eleos_trace.specs.Calls.{call_named, call_text, with_call}
+use Rattle.eleos_trace.specs.declared.word.CallWord.{CallWord}
+use Rattle.eleos_trace.specs.declared.word.CallWord.TheVariants.{Echo, Put, Get, Cut, Clock}
 use Rattle.eleos_trace.specs.declared.word.Word.{Word}
-use Rattle.eleos_trace.specs.declared.word.Word.TheVariants.{Alloc, Free, Share, Tie, Untie, Fill, Evict, Move, Flip, SwapPlaces, Keep, Restore}
+use Rattle.eleos_trace.specs.declared.word.Word.TheVariants.{Alloc, Free, Share, Tie, Untie, Fill, Evict, Move, Flip, SwapPlaces, Keep, Restore, Call}
 use Rattle.eleos_trace.specs.declared.trace.Kind.{Kind}
 use Rattle.eleos_texts.specs.Fields.{is, most_u32}
 use Rattle.eleos_texts.specs.Reasons.{one, two, three, one_and_more, with_one_and_more, ◌>>=◌}
 use Rattle.eleos_texts.specs.Texts.{hex_text}
 use Rattle.eleos_trace.specs.Spelling.{fields, owner_text}
 use Rattle.eleos_report.specs.Fields.{formed, number_of, name_of, bytes_of, optional_of}
-use Rattle.eleos_report.specs.Commands.{is_command, is_move, name_alone, name_and_number, number_alone, two_numbers, read_of, write_of, move_of, host_command_of, frame_command_of, command_of, command_in}
+use Rattle.eleos_report.specs.Commands.{is_command, is_move, name_alone, name_and_number, number_alone, two_numbers, read_of, write_of, call_of, move_of, host_command_of, frame_command_of, command_of, command_in}
 use Rattle.eleos_report.proofs.ReadFields.{step, tested}
 use Rattle.eleos_report.proofs.SpelledHex.{lower}
 use Rattle.eleos_report.proofs.SpelledFields.{when, weaker, verb_is, one_is, two_are, three_are, one_and_more_are, short_spelled, name_spelled, bytes_spelled, owner_spelled}
@@ -77,6 +80,31 @@ write_spelled args = step (λ x. args ≡ x.0 ∷ x.1 ∷ x.2 ∷ []) (λ c. cod
     step (λ bytes. lower x.2 ≡ hex_text bytes) (λ c. codes "write" ∷ lowers args ≡ fields c) (bytes_of x.2) _ (bytes_spelled x.2) (λ bytes bytes_same.
     ap (λ words. codes "write" ∷ lowers words) are ∙ (rw (name_same, offset_same, bytes_same) refl)))))
 
+-- a word that names a call, in small letters, is the call's
+call_spelled_as : (word : List ℕ) → IfSome (call_named word) (λ call. lower word ≡ call_text call)
+call_spelled_as word =
+    let P : CallWord → Type 0 = λ call. lower word ≡ call_text call in
+    if_named P (is (codes "echo") word) Echo _ (verb_is (codes "echo") word refl)
+    (if_named P (is (codes "put") word) Put _ (verb_is (codes "put") word refl)
+    (if_named P (is (codes "get") word) Get _ (verb_is (codes "get") word refl)
+    (if_named P (is (codes "cut") word) Cut _ (verb_is (codes "cut") word refl)
+    (if_named P (is (codes "clock") word) Clock None (verb_is (codes "clock") word refl) tt)))) where
+      if_named : (P : CallWord → Type 0) (b : Bool) (call : CallWord) (others : Option CallWord) → (b ≡ true → P call) → IfSome others P → IfSome (cond b (Some call) others) P
+      if_named P true call others p q = p refl
+      if_named P false call others p q = q
+
+-- what is made of a call that a word names
+with_call_all : (P : CallWord → Type 0) (Q : Word → Type 0) (named : Option CallWord) (f : CallWord → Result Word Why) → IfSome named P → ((call : CallWord) → P call → IfOk (f call) Q) → IfOk (with_call named f) Q
+with_call_all P Q None f is next = tt
+with_call_all P Q (Some call) f is next = next call is
+
+call_spelled : (args : List (List ℕ)) → IfOk (call_of args) (λ c. codes "call" ∷ lowers args ≡ fields c)
+call_spelled args = step (λ x. args ≡ x.0 ∷ x.1 ∷ x.2 ∷ []) (λ c. codes "call" ∷ lowers args ≡ fields c) (three args) _ (three_are args) (λ x are.
+    with_call_all (λ call. lower x.0 ≡ call_text call) (λ c. codes "call" ∷ lowers args ≡ fields c) (call_named x.0) _ (call_spelled_as x.0) (λ call call_same.
+    step (λ bytes. lower x.1 ≡ hex_text bytes) (λ c. codes "call" ∷ lowers args ≡ fields c) (bytes_of x.1) _ (bytes_spelled x.1) (λ bytes bytes_same.
+    step (λ n. lower x.2 ≡ decimal n) (λ c. codes "call" ∷ lowers args ≡ fields c) (number_of most_u32 x.2) _ (short_spelled x.2) (λ room room_same.
+    ap (λ words. codes "call" ∷ lowers words) are ∙ (rw (call_same, bytes_same, room_same) refl)))))
+
 move_spelled : (args : List (List ℕ)) → IfOk (move_of args) (λ c. codes "move" ∷ lowers args ≡ fields c)
 move_spelled args = step (λ x. args ≡ x.0 ∷ x.1 ∷ x.2 ∷ []) (λ c. codes "move" ∷ lowers args ≡ fields c) (three args) _ (three_are args) (λ x are.
     step (λ n. lower x.0 ≡ decimal n) (λ c. codes "move" ∷ lowers args ≡ fields c) (number_of most_u32 x.0) _ (short_spelled x.0) (λ frame frame_same.
@@ -121,7 +149,8 @@ module _ (verb : List ℕ) (args : List (List ℕ)) where
       (when AreFields (is (codes "free") verb) _ _ (verb_step fields alone (codes "free") verb args (name_alone args) (λ name. Free name) refl (name_alone_spelled args) (λ name. refl))
       (when AreFields (is (codes "share") verb) _ _ (verb_step fields alone (codes "share") verb args (name_alone args) (λ name. Share name) refl (name_alone_spelled args) (λ name. refl))
       (when AreFields (is (codes "read") verb) (read_of args) _ (verb_all fields (codes "read") verb args (read_of args) refl (read_spelled args))
-      (when AreFields (is (codes "write") verb) (write_of args) (frame_command_of verb args) (verb_all fields (codes "write") verb args (write_of args) refl (write_spelled args)) frame_command_spelled))))
+      (when AreFields (is (codes "write") verb) (write_of args) _ (verb_all fields (codes "write") verb args (write_of args) refl (write_spelled args))
+      (when AreFields (is (codes "call") verb) (call_of args) (frame_command_of verb args) (verb_all fields (codes "call") verb args (call_of args) refl (call_spelled args)) frame_command_spelled)))))
 
 -- the words that are read as a command are those that it is printed with, but for capitals
 pub command_spelled : (kind : Kind) (words : List (List ℕ)) → IfOk (command_in kind words) (λ c. lowers words ≡ fields c)

@@ -6,21 +6,25 @@ use Rattle.eleos_base.specs.declared.memory.Part.TheVariants.{Present, Frame, Ab
 use Rattle.eleos_texts.specs.declared.why.Why.{Why}
 use Rattle.eleos_texts.specs.declared.why.Why.TheVariants.{Form}
 use Rattle.eleos_texts.specs.Fields.{is, most_u32}
-use Rattle.eleos_texts.specs.Reasons.{with_one, with_one_and_more, ◌>>=◌}
+use Rattle.eleos_texts.specs.Reasons.{with_one, with_two, with_one_and_more, ◌>>=◌}
 use Rattle.eleos_trace.specs.declared.trace.Kind.{Kind}
 use Rattle.eleos_trace.specs.declared.trace.Kind.TheVariants.{Run, Replay}
 use Rattle.eleos_report.specs.declared.answer.Answer.{Answer}
-use Rattle.eleos_report.specs.declared.answer.Answer.TheVariants.{At, Okay, Got, Put, BadSize, NoSpace, NotABlock, NotYours, BadRange, Unallocated, Worn, Tampered, NoFrame, Illegal, Nothing, Skipped}
-use Rattle.eleos_report.specs.Fields.{formed, number_of, bytes_of, block_of, looked_of}
+use Rattle.eleos_report.specs.declared.answer.Answer.TheVariants.{At, Okay, Got, Put, BadSize, NoSpace, NotABlock, NotYours, BadRange, Unallocated, Worn, Tampered, NoFrame, Illegal, Replied, WrongId, TooLong, BadStatus, Nothing, Skipped}
+use Rattle.eleos_report.specs.Fields.{formed, most_u64, number_of, bytes_of, block_of, looked_of}
 use Rattle.eleos_report.specs.Commands.{number_alone}
 
 -- the reply stands in logs of this kind: a run has nothing illegal and tells the block that did not pass,
--- and a replay starves for no frame
+-- and a replay starves for no frame and calls no host
 abbrev pub is_reply : Kind → Answer → Bool
 is_reply Run (Illegal part) = false
 is_reply Run (Tampered sub None) = false
 is_reply Replay (Tampered sub (Some block)) = false
 is_reply Replay (NoFrame sweep) = false
+is_reply Replay (Replied status bytes) = false
+is_reply Replay (WrongId seen) = false
+is_reply Replay (TooLong seen) = false
+is_reply Replay (BadStatus seen) = false
 is_reply kind reply = true
 
 -- what is offended against
@@ -66,7 +70,27 @@ plain_of word =
     else if is (codes "skipped") word then Ok Skipped
     else Err Form
 
+-- a number of 64 bits
+abbrev pub long_alone : List (List ℕ) → Result ℕ Why
+long_alone = with_one (number_of most_u64)
+
+-- the status and the bytes of `reply`
+abbrev pub replied_of : List (List ℕ) → Result Answer Why
+replied_of = with_two (λ status hex. (do
+  status ← number_of most_u64 status
+  bytes ← bytes_of hex
+  Ok (Replied status bytes)))
+
 module _ (word : List ℕ) (args : List (List ℕ)) where
+  -- what a call of the host came to
+  abbrev pub call_answer_of : Result Answer Why
+  call_answer_of =
+      if is (codes "reply") word then replied_of args
+      else if is (codes "wrongid") word then (long_alone args >>= λ seen. Ok (WrongId seen))
+      else if is (codes "toolong") word then (long_alone args >>= λ seen. Ok (TooLong seen))
+      else if is (codes "badstatus") word then (long_alone args >>= λ seen. Ok (BadStatus seen))
+      else Err Form
+
   -- a word that has more than a number behind it, or a plain one
   abbrev pub other_answer_of : Result Answer Why
   other_answer_of =
@@ -75,7 +99,7 @@ module _ (word : List ℕ) (args : List (List ℕ)) where
       else if is (codes "noframe") word then (sweep_of args >>= λ sweep. Ok (NoFrame sweep))
       else if is (codes "illegal") word then (with_one part_of args >>= λ part. Ok (Illegal part))
       else if length args == 0 then plain_of word
-      else Err Form
+      else call_answer_of
 
   -- a word and a number, or one of those
   abbrev pub answer_of : Result Answer Why

@@ -3,17 +3,19 @@ use Rattle.std.specs.Prelude.{ℕ, List, Bool, true, false, Option, Some, None, 
 use Rattle.eleos_texts.specs.declared.why.Why.{Why}
 use Rattle.eleos_texts.specs.declared.why.Why.TheVariants.{Form}
 use Rattle.eleos_trace.specs.declared.word.Word.{Word}
-use Rattle.eleos_trace.specs.declared.word.Word.TheVariants.{Alloc, Free, Share, Read, Write, Tie, Untie, Fill, Evict, Move, Flip, SwapPlaces, Keep, Restore}
+use Rattle.eleos_trace.specs.declared.word.Word.TheVariants.{Alloc, Free, Share, Read, Write, Tie, Untie, Fill, Evict, Move, Flip, SwapPlaces, Keep, Restore, Call}
 use Rattle.eleos_texts.specs.Fields.{is, most_u32}
 use Rattle.eleos_texts.specs.Reasons.{with_one, with_two, with_three, with_one_and_more, ◌>>=◌}
+use Rattle.eleos_trace.specs.Calls.{call_named, with_call}
 use Rattle.eleos_trace.specs.declared.trace.Kind.{Kind}
-use Rattle.eleos_trace.specs.declared.trace.Kind.TheVariants.{Run}
+use Rattle.eleos_trace.specs.declared.trace.Kind.TheVariants.{Run, Replay}
 use Rattle.eleos_report.specs.Fields.{formed, number_of, name_of, bytes_of, optional_of}
 
 -- the command stands in logs of this kind
 abbrev pub is_command : Kind → Word → Bool
 is_command Run (Tie name offset) = false
 is_command Run (Untie name offset) = false
+is_command Replay (Call call bytes room) = false
 is_command kind command = true
 
 -- one of both owners is the pool, which is none, and the other an enclave
@@ -60,6 +62,13 @@ write_of = with_three (λ name offset hex. (do
   bytes ← bytes_of hex
   Ok (Write name offset bytes)))
 
+-- `call WORD HEX ROOM`
+abbrev pub call_of : List (List ℕ) → Result Word Why
+call_of = with_three (λ word hex room. with_call (call_named word) (λ call. (do
+  bytes ← bytes_of hex
+  room ← number_of most_u32 room
+  Ok (Call call bytes room))))
+
 -- `move FRAME FROM TO`
 abbrev pub move_of : List (List ℕ) → Result Word Why
 move_of = with_three (λ frame from to. (do
@@ -88,7 +97,7 @@ module _ (verb : List ℕ) (args : List (List ℕ)) where
       else if is (codes "move") verb then move_of args
       else host_command_of
 
-  -- what a caller does with its memory, or one of those
+  -- what a caller does with its memory, or asks of the host, or one of those
   abbrev pub command_of : Result Word Why
   command_of =
       if is (codes "alloc") verb then (name_and_number args >>= λ x. Ok (Alloc x.0 x.1))
@@ -96,6 +105,7 @@ module _ (verb : List ℕ) (args : List (List ℕ)) where
       else if is (codes "share") verb then (name_alone args >>= λ name. Ok (Share name))
       else if is (codes "read") verb then read_of args
       else if is (codes "write") verb then write_of args
+      else if is (codes "call") verb then call_of args
       else frame_command_of
 
 -- a command of this kind

@@ -6,11 +6,11 @@ use Rattle.eleos_base.specs.declared.memory.Looked.{Looked}
 use Rattle.eleos_trace.specs.declared.word.Actor as actors
 use Rattle.eleos_trace.specs.declared.word.Actor.TheVariants.{Caller, Swapper, Balloon, Host}
 use Rattle.eleos_trace.specs.declared.word.Word.{Word}
-use Rattle.eleos_trace.specs.declared.word.Word.TheVariants.{Alloc, Free, Share, Read, Write, Tie, Untie, Fill, Evict, Move, Flip, SwapPlaces, Keep, Restore}
+use Rattle.eleos_trace.specs.declared.word.Word.TheVariants.{Alloc, Free, Share, Read, Write, Tie, Untie, Fill, Evict, Move, Flip, SwapPlaces, Keep, Restore, Call}
 use Rattle.eleos_texts.specs.Fields.{is_name}
 use Rattle.eleos_trace.specs.declared.trace.Kind.{Kind}
 use Rattle.eleos_report.specs.declared.answer.Answer.{Answer}
-use Rattle.eleos_report.specs.declared.answer.Answer.TheVariants.{At, Okay, Got, Put, BadSize, NoSpace, NotABlock, NotYours, BadRange, Unallocated, Worn, Tampered, NoFrame, Illegal, Nothing, Skipped}
+use Rattle.eleos_report.specs.declared.answer.Answer.TheVariants.{At, Okay, Got, Put, BadSize, NoSpace, NotABlock, NotYours, BadRange, Unallocated, Worn, Tampered, NoFrame, Illegal, Replied, WrongId, TooLong, BadStatus, Nothing, Skipped}
 use Rattle.eleos_report.specs.declared.line.LogLine.{LogLine}
 use Rattle.eleos_report.specs.declared.line.LogLine.TheVariants.{Said, End}
 use Rattle.eleos_report.specs.Fields.{block_bytes}
@@ -53,6 +53,7 @@ HasFields (Flip place bit) = IsShort place × IsShort bit
 HasFields (SwapPlaces a b) = IsShort a × IsShort b
 HasFields (Keep place) = IsShort place
 HasFields (Restore place) = IsShort place
+HasFields (Call call bytes room) = IsBytes bytes × IsShort room
 
 -- the bytes of a block
 abbrev pub IsBlock : List ℕ → Type 0
@@ -78,6 +79,10 @@ HasParts (Worn sub) = IsShort sub
 HasParts (Tampered sub block) = IsShort sub × IfSome block IsBlock
 HasParts (NoFrame sweep) = AllByRecursion IsLooked sweep
 HasParts (Illegal part) = Unit {0}
+HasParts (Replied status bytes) = IsLong status × IsBytes bytes
+HasParts (WrongId seen) = IsLong seen
+HasParts (TooLong seen) = IsLong seen
+HasParts (BadStatus seen) = IsLong seen
 HasParts Nothing = Unit {0}
 HasParts Skipped = Unit {0}
 

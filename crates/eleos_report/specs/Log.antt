@@ -8,7 +8,7 @@ use Rattle.eleos_base.specs.declared.memory.Part.TheVariants.{Present, Frame, Ab
 use Rattle.eleos_texts.specs.Texts.{hex_text}
 use Rattle.eleos_trace.specs.Spelling.{fields, actor_text}
 use Rattle.eleos_report.specs.declared.answer.Answer.{Answer}
-use Rattle.eleos_report.specs.declared.answer.Answer.TheVariants.{At, Okay, Got, Put, BadSize, NoSpace, NotABlock, NotYours, BadRange, Unallocated, Worn, Tampered, NoFrame, Illegal, Nothing, Skipped}
+use Rattle.eleos_report.specs.declared.answer.Answer.TheVariants.{At, Okay, Got, Put, BadSize, NoSpace, NotABlock, NotYours, BadRange, Unallocated, Worn, Tampered, NoFrame, Illegal, Replied, WrongId, TooLong, BadStatus, Nothing, Skipped}
 use Rattle.eleos_report.specs.declared.line.LogLine.{LogLine}
 use Rattle.eleos_report.specs.declared.line.LogLine.TheVariants.{Said, End}
 
@@ -46,6 +46,10 @@ answer_fields (Worn sub) = codes "worn" ∷ decimal sub ∷ []
 answer_fields (Tampered sub block) = codes "tampered" ∷ decimal sub ∷ block_fields block
 answer_fields (NoFrame sweep) = codes "noframe" ∷ map looked_text sweep
 answer_fields (Illegal part) = codes "illegal" ∷ part_text part ∷ []
+answer_fields (Replied status bytes) = codes "reply" ∷ decimal status ∷ hex_text bytes ∷ []
+answer_fields (WrongId seen) = codes "wrongid" ∷ decimal seen ∷ []
+answer_fields (TooLong seen) = codes "toolong" ∷ decimal seen ∷ []
+answer_fields (BadStatus seen) = codes "badstatus" ∷ decimal seen ∷ []
 answer_fields Nothing = codes "none" ∷ []
 answer_fields Skipped = codes "skipped" ∷ []
 

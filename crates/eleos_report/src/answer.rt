@@ -27,6 +27,14 @@ pub enum Answer {
     NoFrame { sweep: List<Looked> },
     /// What the command offends against.
     Illegal { part: Part },
+    /// The host answered a call with this status and these bytes.
+    Replied { status: u64, bytes: Bytes },
+    /// A reply bore this number, and not that of the call.
+    WrongId { seen: u64 },
+    /// A reply had this length, above its room.
+    TooLong { seen: u64 },
+    /// A reply had this status, which is none.
+    BadStatus { seen: u64 },
     /// The host had nothing of that place to restore.
     Nothing,
     /// The command's name is not bound.

@@ -3,7 +3,7 @@ ghost use Rattle.std.specs.Prelude.{◌≡◌, ℕ, List, map};
 ghost use Rattle.eleos_texts.specs.Reasons.{Reads};
 ghost use Rattle.eleos_report.specs.Commands.{is_command, is_move, name_alone, name_and_number};
 ghost use Rattle.eleos_report.specs.Commands.{number_alone, two_numbers, read_of, write_of};
-ghost use Rattle.eleos_report.specs.Commands.{move_of};
+ghost use Rattle.eleos_report.specs.Commands.{call_of, move_of};
 ghost use Rattle.eleos_report.specs.Commands.{command_in, command_of, frame_command_of};
 ghost use Rattle.eleos_report.specs.Commands.{host_command_of};
 
@@ -11,7 +11,7 @@ use crate::fields::{bytes_of, name_of, number_of, owner_of};
 use eleos_base::Bytes;
 use eleos_texts::counts::{one, one_and_more, three, two};
 use eleos_texts::{LineRefused, Why, refused};
-use eleos_trace::{Kind, Word};
+use eleos_trace::{CallWord, Kind, Word};
 use std::alloc::Global;
 
 /// A command of this kind.
@@ -33,7 +33,7 @@ fn is_command(kind: Kind, command: &Word) -> bool
 {
     match kind {
         Kind::Run => !matches!(command, Word::Tie { .. } | Word::Untie { .. }),
-        Kind::Replay => true,
+        Kind::Replay => !matches!(command, Word::Call { .. }),
     }
 }
 
@@ -54,6 +54,8 @@ fn command_of(alloc: Global, verb: &[u8], args: &[&[u8]]) -> Result<Word, LineRe
         read_of(alloc, args)
     } else if verb == b"write".as_slice() {
         write_of(alloc, args)
+    } else if verb == b"call".as_slice() {
+        call_of(alloc, args)
     } else {
         frame_command_of(alloc, verb, args)
     }
@@ -157,6 +159,19 @@ fn write_of(alloc: Global, args: &[&[u8]]) -> Result<Word, LineRefused>
         offset,
         bytes,
     })
+}
+
+/// `call WORD HEX ROOM`
+fn call_of(alloc: Global, args: &[&[u8]]) -> Result<Word, LineRefused>
+    ensures { Reads (λ command. command) result (call_of (map (λ arg. arg.now) args.now)) }
+{
+    let (word, hex, room) = three(args)?;
+    let Some(call) = CallWord::named(word) else {
+        return refused(Why::Form);
+    };
+    let bytes = bytes_of(alloc, hex)?;
+    let room = number_of(room)?;
+    Ok(Word::Call { call, bytes, room })
 }
 
 /// `move FRAME FROM TO`

@@ -3,13 +3,13 @@ ghost use Rattle.std.specs.Prelude.{◌≡◌, ℕ, List, map};
 ghost use Rattle.eleos_texts.specs.Reasons.{Reads};
 ghost use Rattle.eleos_report.specs.Answers.{is_reply, part_of, sweep_of, told_block_of};
 ghost use Rattle.eleos_report.specs.Answers.{tampered_of, plain_of, other_answer_of, answer_of};
-ghost use Rattle.eleos_report.specs.Answers.{answer_in};
+ghost use Rattle.eleos_report.specs.Answers.{answer_in, call_answer_of, long_alone, replied_of};
 
 use crate::commands::number_alone;
-use crate::fields::{block_of, bytes_of, looked_of, number_of};
+use crate::fields::{block_of, bytes_of, long_number_of, looked_of, number_of};
 use crate::{Answer, Block};
 use eleos_base::{List, Looked, Part};
-use eleos_texts::counts::{one, one_and_more};
+use eleos_texts::counts::{one, one_and_more, two};
 use eleos_texts::{LineRefused, Why, refused};
 use eleos_trace::Kind;
 use std::alloc::Global;
@@ -35,6 +35,8 @@ fn is_reply(kind: Kind, reply: &Answer) -> bool
         (Kind::Run, Answer::Tampered { block, .. }) => block.is_some(),
         (Kind::Replay, Answer::Tampered { block, .. }) => block.is_none(),
         (Kind::Replay, Answer::NoFrame { .. }) => false,
+        (Kind::Replay, Answer::Replied { .. } | Answer::WrongId { .. }) => false,
+        (Kind::Replay, Answer::TooLong { .. } | Answer::BadStatus { .. }) => false,
         _ => true,
     }
 }
@@ -79,8 +81,46 @@ fn other_answer_of(alloc: Global, word: &[u8], args: &[&[u8]]) -> Result<Answer,
     } else if args.is_empty() {
         plain_of(word)
     } else {
+        call_answer_of(alloc, word, args)
+    }
+}
+
+/// What a call of the host came to.
+fn call_answer_of(alloc: Global, word: &[u8], args: &[&[u8]]) -> Result<Answer, LineRefused>
+    ensures { Reads (λ reply. reply) result
+        (call_answer_of word.now (map (λ arg. arg.now) args.now)) }
+{
+    if word == b"reply".as_slice() {
+        replied_of(alloc, args)
+    } else if word == b"wrongid".as_slice() {
+        let seen = long_alone(args)?;
+        Ok(Answer::WrongId { seen })
+    } else if word == b"toolong".as_slice() {
+        let seen = long_alone(args)?;
+        Ok(Answer::TooLong { seen })
+    } else if word == b"badstatus".as_slice() {
+        let seen = long_alone(args)?;
+        Ok(Answer::BadStatus { seen })
+    } else {
         refused(Why::Form)
     }
+}
+
+/// A number of 64 bits alone.
+fn long_alone(args: &[&[u8]]) -> Result<u64, LineRefused>
+    ensures { Reads (λ n. n) result (long_alone (map (λ arg. arg.now) args.now)) }
+{
+    long_number_of(one(args)?)
+}
+
+/// The status and the bytes of a reply.
+fn replied_of(alloc: Global, args: &[&[u8]]) -> Result<Answer, LineRefused>
+    ensures { Reads (λ reply. reply) result (replied_of (map (λ arg. arg.now) args.now)) }
+{
+    let (status, hex) = two(args)?;
+    let status = long_number_of(status)?;
+    let bytes = bytes_of(alloc, hex)?;
+    Ok(Answer::Replied { status, bytes })
 }
 
 /// A reply of one word.

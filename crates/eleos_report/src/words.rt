@@ -58,6 +58,12 @@ pub(crate) fn push_command(alloc: Global, out: &mut Vec<u8>, command: &Word) -> 
         Word::SwapPlaces { a, b } => push_two(alloc, out, b"swap", *a, *b),
         Word::Keep { place } => push_numbered(alloc, out, b"keep", *place),
         Word::Restore { place } => push_numbered(alloc, out, b"restore", *place),
+        Word::Call { call, bytes, room } => {
+            push(out, b" call")?;
+            push_field(out, call.text())?;
+            push_hex_field(out, bytes.as_slice())?;
+            push_number_field(alloc, out, *room)
+        }
     }
 }
 

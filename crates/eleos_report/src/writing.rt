@@ -1,7 +1,8 @@
 // The printed spelling of replies and of whole lines.
 ghost use Rattle.std.specs.Prelude.{◌≡◌, ◌++◌, ◌∷◌, IfOk, OnOk, Some, codes, map};
 ghost use Rattle.eleos_report.specs.declared.answer.Answer.TheVariants.{Put};
-ghost use Rattle.eleos_report.specs.declared.line.LogLine.TheVariants.{Said};
+ghost use Rattle.eleos_report.specs.declared.line.LogLine.TheVariants.{End, Said};
+ghost use Rattle.std.specs.Fmt.{decimal};
 ghost use Rattle.std.specs.String.{string_bytes};
 ghost use Rattle.eleos_trace.specs.declared.trace.Kind.{Kind};
 ghost use Rattle.eleos_report.specs.Grammar.{IsLine};
@@ -81,8 +82,7 @@ pub fn push_put(
 fn push_put_answer(alloc: Global, out: &mut Vec<u8>, count: u64) -> Result<(), NoMemory>
     ensures { OnOk result (out.new.items ≡ out.old.items ++ spaced (answer_fields (Put count))) }
 {
-    push(out, b" put ")?;
-    push_number(alloc, out, count)
+    push_long(alloc, out, b" put ", count)
 }
 
 /// A stamp, an actor, a command and `=`, before a reply.
@@ -144,9 +144,24 @@ fn push_answer(alloc: Global, out: &mut Vec<u8>, answer: &Answer) -> Result<(), 
             push(out, b" illegal")?;
             push_field(out, part_word(*part))
         }
+        Answer::Replied { status, bytes } => {
+            push_long(alloc, out, b" reply ", *status)?;
+            push_hex_field(out, bytes.as_slice())
+        }
+        Answer::WrongId { seen } => push_long(alloc, out, b" wrongid ", *seen),
+        Answer::TooLong { seen } => push_long(alloc, out, b" toolong ", *seen),
+        Answer::BadStatus { seen } => push_long(alloc, out, b" badstatus ", *seen),
         Answer::Nothing => push(out, b" none"),
         Answer::Skipped => push(out, b" skipped"),
     }
+}
+
+/// A text and a number of 64 bits.
+fn push_long(alloc: Global, out: &mut Vec<u8>, text: &[u8], number: u64) -> Result<(), NoMemory>
+    ensures { OnOk result (out.new.items ≡ out.old.items ++ (text.now ++ decimal number)) }
+{
+    push(out, text)?;
+    push_number(alloc, out, number)
 }
 
 /// The block that did not pass, where it is told.

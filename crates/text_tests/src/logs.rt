@@ -38,10 +38,18 @@ const REPLAYED: &str = "0 c1 alloc a 5000 = at 0
 end 18446744073709551615
 ";
 
-/// A log of a run with a block that did not pass, which is left out here, and one without a frame.
+/// A log of a run with a block that did not pass, which is left out here, one without a frame, and
+/// calls of the host.
 const RAN: [&str; 2] = [
     "0 c1 alloc a 1 = at 0\n1 c8 write a 0 41 = ok\n2 c2 read a 0 1 = tampered 3 ",
-    "\n3 c1 read a 0 1 = noframe\n4 c1 read a 0 1 = noframe 0:1 12:18446744073709551615\n5 s evict 0 0 = put 0\nend 6\n",
+    "\n3 c1 read a 0 1 = noframe\n4 c1 read a 0 1 = noframe 0:1 12:18446744073709551615\n5 s evict 0 0 = put 0
+- c1 call echo 0102 2 = reply 0 0102
+- c1 call put - 1024 = wrongid 18446744073709551615
+- c2 call get 00 4294967295 = toolong 3
+- c2 call cut ff 0 = badstatus 4
+- c8 call clock - 8 = reply 18446744073709551615 -
+end 6
+",
 ];
 
 /// The text of the lines that are read.
@@ -78,7 +86,7 @@ fn reads_and_prints_each_line(rt: HostRuntime) -> Result<(), Fail> {
 }
 
 /// Logs that begin at line 7, with the bad line and its reason.
-const BAD: [(Kind, &str, u32, Why); 25] = [
+const BAD: [(Kind, &str, u32, Why); 30] = [
     (Kind::Replay, "", 7, Why::Cut),
     (Kind::Replay, "end 0", 7, Why::Cut),
     (Kind::Replay, "- c1 free a = skipped\n", 8, Why::Cut),
@@ -144,6 +152,36 @@ const BAD: [(Kind, &str, u32, Why); 25] = [
     ),
     (Kind::Run, "0 c1 tie a 0 = ok\nend 1\n", 7, Why::Form),
     (Kind::Run, "0 c1 untie a 0 = ok\nend 1\n", 7, Why::Form),
+    (
+        Kind::Run,
+        "- c1 call tell - 0 = reply 0 -\nend 0\n",
+        7,
+        Why::Form,
+    ),
+    (
+        Kind::Run,
+        "- c1 call echo - 0 = reply 0\nend 0\n",
+        7,
+        Why::Form,
+    ),
+    (
+        Kind::Run,
+        "- c1 call echo - 0 = toolong 18446744073709551616\nend 0\n",
+        7,
+        Why::Form,
+    ),
+    (
+        Kind::Replay,
+        "- c1 call echo - 0 = reply 0 -\nend 0\n",
+        7,
+        Why::Form,
+    ),
+    (
+        Kind::Replay,
+        "- c1 free a = wrongid 1\nend 0\n",
+        7,
+        Why::Form,
+    ),
 ];
 
 #[test]
