@@ -29,7 +29,7 @@ name_used (Tie name offset) = Some name
 name_used (Untie name offset) = Some name
 name_used _ = None
 
--- what a command means that needs none
+-- what a command means that needs none; a call of the host means no event
 abbrev pub meaning_alone : Word → Meaning
 meaning_alone (Alloc name bytes) = Happens (events.Op (ops.Alloc bytes))
 meaning_alone (Fill page frame) = Happens (events.Fill page frame)

@@ -3,9 +3,9 @@ use Rattle.std.specs.Prelude.{◌≡◌, ℕ, ◌+◌, List, [], ◌∷◌, map,
 use Rattle.eleos_base.specs.declared.plan.Plan.{Plan}
 use Rattle.eleos_core.specs.declared.event.Event.{Event}
 use Rattle.eleos_report.specs.declared.answer.Answer.{Answer}
-use Rattle.eleos_report.specs.declared.answer.Answer.TheVariants.{At, Skipped}
+use Rattle.eleos_report.specs.declared.answer.Answer.TheVariants.{At, Replied, WrongId, TooLong, BadStatus, Skipped}
 use Rattle.eleos_trace.specs.declared.word.Word.{Word}
-use Rattle.eleos_trace.specs.declared.word.Word.TheVariants.{Alloc, Free, Share, Read, Write}
+use Rattle.eleos_trace.specs.declared.word.Word.TheVariants.{Alloc, Free, Share, Read, Write, Call}
 use Rattle.eleos_meaning.specs.Meanings.{event_in, meaning_of}
 use Rattle.eleos_meaning.specs.Names.{Names, with_name}
 use Rattle.eleos_meaning.specs.Told.{Came, Entered, Replied, Told, answer_in}
@@ -22,6 +22,14 @@ shown told = (told.word, answer_in told.came)
 abbrev pub is_skipped : Answer → Bool
 is_skipped Skipped = true
 is_skipped _ = false
+
+-- the line says what a call of the host came to
+abbrev pub is_called : Answer → Bool
+is_called (Replied status bytes) = true
+is_called (WrongId seen) = true
+is_called (TooLong seen) = true
+is_called (BadStatus seen) = true
+is_called _ = false
 
 -- the event that a command with this reply means; none where its line has no stamp
 abbrev pub resolve : Plan → Names → Word → Answer → Option Event
@@ -53,6 +61,7 @@ module _ (home : ℕ) where
   next names (Share name) way reply = named_row (is_some (names name)) way reply names
   next names (Read name offset len) way reply = named_row (is_some (names name)) way reply names
   next names (Write name offset bytes) way reply = named_row (is_some (names name)) way reply names
+  next names (Call call bytes room) way reply = when (is_none way && is_called reply) names
   next names _ way reply = None
 
 module _ (k : Plan) where

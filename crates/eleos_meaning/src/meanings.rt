@@ -19,7 +19,7 @@ use std::alloc::Global;
 /// What a command means.
 #[derive(Debug, Drop)]
 pub enum Meaning {
-    /// Nothing: its name has no address.
+    /// Nothing: its name has no address, or it is a call of the host.
     Nameless,
     /// An event of the machine.
     Happens(Event),
