@@ -1,5 +1,5 @@
 -- The jobs of all callers, one after another.
-use Rattle.std.proofs.Common.{◌≡◌, ℕ, zero, suc, ◌+◌, ◌<◌, ◌≤◌, Bool, true, false, cond, List, [], ◌∷◌, ◌++◌, filter, length, map, get_or, vec_capacity, refl, sym, ap, ◌∙◌, subst, arith, append-nil, length-append}
+use Rattle.std.proofs.Common.{◌≡◌, ℕ, zero, suc, ◌+◌, ◌-◌, ◌<◌, ◌≤◌, Bool, true, false, cond, List, [], ◌∷◌, ◌++◌, filter, length, map, get_or, vec_capacity, refl, sym, ap, ◌∙◌, subst, arith, append-nil, length-append}
 use lib.ListN.{length-map}
 use Rattle.std.proofs.lemmas.List.{map-append}
 use Rattle.eleos_base.specs.declared.plan.Plan.{Plan}
@@ -17,7 +17,9 @@ use Rattle.eleos_turn.specs.Hands.{HandState, dealt, entries, fresh}
 use Rattle.eleos_run.specs.declared.jobs.Job.{Job}
 use Rattle.eleos_run.specs.Callers.{AreDoneJobs, AreNewJobs, IsDoneJob, IsNewJob, lines_of}
 use Rattle.eleos_pages.specs.Exchanges.{AreExchanged}
-use Rattle.eleos_run.specs.Jobs.{HasRun, IsReadyJob, commands_of, names_of}
+use Rattle.eleos_ring.specs.Rings.{idle}
+use Rattle.eleos_run.specs.Calls.{AreCalled, shown_in}
+use Rattle.eleos_run.specs.Jobs.{AreReady, HasRun, IsReadyJob, commands_of, names_of}
 use Rattle.eleos_run.specs.Lines.{commands_by, is_by, program}
 use Rattle.eleos_meaning.specs.Programs.{Tells, TellsAll}
 use Rattle.eleos_meaning.specs.Table.{AnySaid, Ends, Gives, lines_for}
@@ -32,9 +34,9 @@ use Rattle.eleos_run.specs.declared.tasks.Task.{Task}
 use Rattle.eleos_run.specs.Tasks.{AllReady}
 use Rattle.eleos_meaning.specs.Names.{Names, opening_names}
 
-module _ {P : Type 0} where
+module _ {P C : Type 0} where
   -- each is ready
-  pub new_at : (trace : Trace) (z : Site) (who : ℕ) (js : List (Job P)) → AreNewJobs trace z who js → (k : ℕ) (j : Job P) → k < length js → IsReadyJob z (get_or js k j)
+  pub new_at : (trace : Trace) (z : Site) (who : ℕ) (js : List (Job P C)) → AreNewJobs trace z who js → AreReady z js
   new_at trace z who [] new k j inside = absurd (omega (arith, inside))
   new_at trace z who (i ∷ js) new zero j inside = new.0.ready
   new_at trace z who (i ∷ js) new (suc k) j inside = new_at trace z (who + 1) js new.1 k j (omega (arith, inside))
@@ -51,9 +53,9 @@ ended k {who = who} t = record {
   made_are = t.made_are ∙ ap made_in (sym (append-nil t.told));
 }
 
-module _ {P : Type 0} (gave took : ℕ → List ℕ → Type 0) where
+module _ {P C : Type 0} (gave took : ℕ → List ℕ → Type 0) (shown written : ℕ → ℕ → Type 0) where
   -- a job that has run
-  pub one_done : (trace : Trace) (z : Site) (who : ℕ) (i j : Job P) → IsNewJob trace z who i → HasRun gave took z i j → IsDoneJob gave took trace z who j
+  pub one_done : (trace : Trace) (z : Site) (who : ℕ) (i j : Job P C) → IsNewJob trace z who i → HasRun gave took shown written z i j → IsDoneJob gave took shown written trace z who j
   one_done trace z who i j new run =
       let number = ap (λ (h : HandState Stamp Part Ground). h.number) new.unused in
       let none : entries core_terms i.pass.hand ≡ [] = ap (λ (h : HandState Stamp Part Ground). entries core_terms h) new.unused in
@@ -65,11 +67,12 @@ module _ {P : Type 0} (gave took : ℕ → List ℕ → Type 0) where
         few = let few = run.few in let same = ap lines_for new.commands in omega (arith, few, same);
         mine = subst (λ (q : ((ℕ × Names) × List Word) × List Made). TellsAll (Gives AnySaid (plan_at z) (enclave_of (plan_at z) q.0.0.0)) Ends (Caller q.0.0.0) q.0.0.1 q.0.1 j.lines.items q.1) (λ t. (((number t, new.names t), new.commands t), made t)) (ended (plan_at z) run.told.tells);
         exchanged = subst (AreExchanged gave took z j.pass.hand.seen) made run.told.exchanged;
+        called = subst (λ (n : ℕ). AreCalled shown written (n - 1) 0 (shown_in j.lines.items)) number run.called.called;
       }
 
   -- all have run
-  pub all_done : (trace : Trace) (z : Site) (who : ℕ) (is js : List (Job P)) → AreNewJobs trace z who is → length js ≡ length is
-      → ((k : ℕ) (j : Job P) → k < length is → HasRun gave took z (get_or is k j) (get_or js k j)) → AreDoneJobs gave took trace z who js
+  pub all_done : (trace : Trace) (z : Site) (who : ℕ) (is js : List (Job P C)) → AreNewJobs trace z who is → length js ≡ length is
+      → ((k : ℕ) (j : Job P C) → k < length is → HasRun gave took shown written z (get_or is k j) (get_or js k j)) → AreDoneJobs gave took shown written trace z who js
   all_done trace z who [] [] new same each = tt
   all_done trace z who [] (j ∷ js) new same each = absurd (omega (arith, same))
   all_done trace z who (i ∷ is) [] new same each = absurd (omega (arith, same))
@@ -83,12 +86,12 @@ commands_few who (line ∷ lines) = go (is_by who line.actor) (commands_few who 
   go true few = omega (arith, few)
   go false few = omega (arith, few)
 
-module _ {P : Type 0} where
+module _ {P C : Type 0} where
   -- a job with all that its caller needs
-  pub new_job : (trace : Trace) (z : Site) (j : Job P) → IsRun trace → IsMachine z → z.base.grounds.plan ≡ trace.plan → IsCaller trace.plan j.pass.hand.number → j.pass.hand ≡ fresh z j.pass.hand.number
+  pub new_job : (trace : Trace) (z : Site) (j : Job P C) → IsRun trace → IsMachine z → z.base.grounds.plan ≡ trace.plan → IsCaller trace.plan j.pass.hand.number → j.pass.hand ≡ fresh z j.pass.hand.number
       → AllReady j.names j.tasks.items → commands_of j.tasks.items ≡ program trace j.pass.hand.number → names_of j ≡ opening_names trace j.pass.hand.number → j.lines.items ≡ [] → length j.tasks.items ≤ vec_capacity j.lines
-      → IsNewJob trace z j.pass.hand.number j
-  new_job trace z j run machine plan caller unused ready commands names empty room =
+      → j.ring ≡ idle (j.pass.hand.number - 1) 0 → IsNewJob trace z j.pass.hand.number j
+  new_job trace z j run machine plan caller unused ready commands names empty room ring =
       let long : length j.tasks.items ≡ length (commands_of j.tasks.items) = sym (length-map j.tasks.items (λ (t : Task). t.command)) in
       let same = ap length commands in
       let few = commands_few j.pass.hand.number trace.lines in
@@ -108,6 +111,7 @@ module _ {P : Type 0} where
           left = omega (arith, long, same, few, most, left, each, one);
           empty = empty;
           room = omega (arith, room, one, long);
+          ring = ring;
         };
         unused = unused;
         commands = commands;
@@ -115,7 +119,7 @@ module _ {P : Type 0} where
       }
 
   -- behind the new jobs of callers in order comes that of the caller with the next number
-  pub new_snoc : (trace : Trace) (z : Site) (a k : ℕ) (js : List (Job P)) (j : Job P) → k ≡ a + length js + 1 → AreNewJobs trace z a js → IsNewJob trace z k j → AreNewJobs trace z a (js ++ j ∷ [])
+  pub new_snoc : (trace : Trace) (z : Site) (a k : ℕ) (js : List (Job P C)) (j : Job P C) → k ≡ a + length js + 1 → AreNewJobs trace z a js → IsNewJob trace z k j → AreNewJobs trace z a (js ++ j ∷ [])
   new_snoc trace z a k [] j is new one = (subst (λ (n : ℕ). IsNewJob trace z n j) (let e : k ≡ a + 1 = omega (arith, is) in e) one, tt)
   new_snoc trace z a k (i ∷ is) j e new one = (new.0, new_snoc trace z (a + 1) k is j (omega (arith, e)) new.1 one)
 
@@ -152,12 +156,12 @@ dealt_last z a (suc n) [] x is = absurd (let e = ap length is in let l = dealt_l
 dealt_last z a zero (s ∷ ss) x is = absurd (let e = ap length is in let l = length-append (hands_of ss) (x.hand ∷ []) in let same = ap length (map-append (λ (q : PassState). q.hand) ss (x ∷ [])) in omega (arith, e, l, same))
 dealt_last z a (suc n) (s ∷ ss) x is = let r = dealt_last z (a + 1) n ss x (ap others is) in ((λ i. first_or s.hand (is i) ∷ r.0 i), r.1 ∙ (let e : a + 1 + n + 1 ≡ a + suc n + 1 = omega arith in ap (λ (m : ℕ). fresh z m) e))
 
-module _ {P : Type 0} where
+module _ {P C : Type 0} where
   -- the lines of one more job are among those of all jobs
-  pub lines_fit : (jobs ys rest zs : List (Job P)) (x : Job P) → jobs ≡ ys ++ rest → rest ≡ x ∷ zs → length (lines_of ys) + length x.lines.items ≤ length (lines_of jobs)
+  pub lines_fit : (jobs ys rest zs : List (Job P C)) (x : Job P C) → jobs ≡ ys ++ rest → rest ≡ x ∷ zs → length (lines_of ys) + length x.lines.items ≤ length (lines_of jobs)
   lines_fit jobs ys rest zs x split steps =
-      subst (λ (js : List (Job P)). length (lines_of ys) + length x.lines.items ≤ length (lines_of js)) (sym (split ∙ ap (λ (z : List (Job P)). ys ++ z) steps)) (go ys) where
-        go : (us : List (Job P)) → length (lines_of us) + length x.lines.items ≤ length (lines_of (us ++ x ∷ zs))
+      subst (λ (js : List (Job P C)). length (lines_of ys) + length x.lines.items ≤ length (lines_of js)) (sym (split ∙ ap (λ (z : List (Job P C)). ys ++ z) steps)) (go ys) where
+        go : (us : List (Job P C)) → length (lines_of us) + length x.lines.items ≤ length (lines_of (us ++ x ∷ zs))
         go [] = let e = length-append x.lines.items (lines_of zs) in omega (arith, e)
         go (u ∷ us) = let rest = go us in let a = length-append u.lines.items (lines_of us) in let b = length-append u.lines.items (lines_of (us ++ x ∷ zs)) in omega (arith, rest, a, b)
 

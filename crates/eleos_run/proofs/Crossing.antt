@@ -1,6 +1,5 @@
 -- What is exchanged with the host for a command.
-use Rattle.std.proofs.Common.{◌≡◌, ℕ, Bool, true, false, ◌&&◌, cond, List, [], ◌∷◌, filter, length, take, map, refl, sym, ap, ◌∙◌, subst}
-use Rattle.std.specs.List.{AllByRecursion}
+use Rattle.std.proofs.Common.{ℕ, List, [], ◌∷◌, take, sym, subst}
 use Rattle.eleos_base.specs.declared.memory.Addr.{Addr}
 use Rattle.eleos_base.specs.declared.memory.Op.{Op}
 use Rattle.eleos_base.specs.declared.memory.Op.TheVariants as ops
@@ -9,34 +8,23 @@ use Rattle.eleos_base.specs.declared.plan.Plan.{Plan}
 use Rattle.eleos_core.specs.declared.event.Entry.{Entry}
 use Rattle.eleos_core.specs.declared.event.Event as events
 use Rattle.eleos_core.specs.declared.event.Event.TheVariants.{Op as ACall}
-use Rattle.eleos_core.specs.Applying.{puts_of}
-use Rattle.eleos_core.specs.Parts.{Stamp, Made, Entries}
-use Rattle.eleos_base.specs.Places.{all_subs, sub_of}
+use Rattle.eleos_core.specs.Parts.{Made, Entries}
 use Rattle.eleos_core.specs.Seals.{Seals}
-use Rattle.eleos_core.specs.State.{History, entry, is_present, is_sealed, is_sealing, last, places}
-use Rattle.eleos_direct.specs.Accesses.{HasAccessed}
+use Rattle.eleos_core.specs.State.{History, entry, places}
 use Rattle.eleos_pages.specs.Entered.{Enters}
 use Rattle.eleos_pages.specs.Held.{access_stamp}
-use Rattle.eleos_host.specs.declared.port.HostPort.{Ghosts}
-use Rattle.eleos_host.specs.declared.port.HostStore as store
-use Rattle.eleos_host.specs.Taps.{TapState}
 use Rattle.eleos_machine.specs.Machines.{Site, plan_at, seals_at}
-use Rattle.eleos_machine.specs.Passes.{PassState, plan_of}
-use Rattle.eleos_pages.specs.Crossed.{at_place, came}
-use Rattle.eleos_plot.specs.Terms.{core_terms}
+use Rattle.eleos_machine.specs.Passes.{PassState}
 use Rattle.eleos_trace.specs.declared.word.Word.{Word}
-use Rattle.eleos_turn.proofs.Clients.{goes_same}
 use Rattle.eleos_run.specs.declared.answers.Spoken.{Spoken}
-use Rattle.eleos_pages.specs.Exchanges.{AreExchanged, AreGiven, Exchanges, HasExchanged}
+use Rattle.eleos_pages.specs.Exchanges.{AreExchanged, Exchanges, HasExchanged}
 use Rattle.eleos_meaning.specs.Names.{Names}
 use Rattle.eleos_run.specs.Steps.{AreOnBlocks, HasMadeOnBlocks, IsOnBlocks, Speaks}
 use Rattle.eleos_meaning.specs.Told.{made_of}
 use Rattle.eleos_run.proofs.Meanings.{IsBlockWord, means_on}
 use Rattle.eleos_plot.specs.Histories.{history_of}
-use Rattle.eleos_pages.proofs.Crossing.{entry_exchanges, given_at, none_given, none_taken}
+use Rattle.eleos_pages.proofs.Crossing.{entry_exchanges, none_given, none_taken}
 use Rattle.eleos_pages.proofs.Exchanging.{exchanges_these}
-
--- ---- calls on blocks
 
 module _ (gave took : ℕ → List ℕ → Type 0) where
   block_exchanged : (k : Plan) (x : Seals) (past : History) (who : ℕ) (op : Op) (blocks : List (List ℕ)) (reply : Reply) → IsOnBlocks op → HasExchanged gave took k x past (entry who (ACall op) blocks reply)
@@ -65,20 +53,3 @@ module _ (gave took : ℕ → List ℕ → Type 0) where
     pub refused_exchanges : (s s' : PassState) (at : Addr) (n : ℕ) (reply : Reply) → Enters s (access_stamp s (ops.Read at n) [] reply) [] s' → Exchanges gave took z s s'
     refused_exchanges s s' at n reply enters = entry_exchanges gave took z s s' (access_stamp s (ops.Read at n) [] reply) [] enters
         (record { given = none_given gave took (places (plan_at z) (ACall (ops.Read at n)) enters.past); taken = none_taken gave took (plan_at z) (seals_at z) enters.past s.hand.number (ops.Read at n) [] reply tt })
-
--- ---- accesses
-
-module _ {P : Type 0} (port : Ghosts P) (host : store.Ghosts P) where
-  -- a read
-  pub read_exchanges : (s s' : PassState) (before : TapState P) (at : Addr) (n : ℕ) (reply : Reply) (tap : TapState P) (z : Site) → s.hand.home ≡ z → HasAccessed port host s before at (ops.Read at n) reply s' tap → Exchanges port.gave port.took z s s'
-  read_exchanges s s' before at n reply tap z home a = let k : Plan = plan_of s in let past : History = a.entered.past in
-      subst (λ (q : Site). Exchanges port.gave port.took q s s') home
-      (entry_exchanges port.gave port.took s.hand.home s s' (access_stamp s (ops.Read at n) (came tap) reply) [] a.entered
-      (record { given = given_at port.gave port.took (sub_of k at) (is_sealed k past) (is_present k past (sub_of k at)) (is_sealed k past (sub_of k at)) (came tap) refl a.crossed.gave; taken = a.crossed.took }))
-
-  -- a write
-  pub write_exchanges : (s s' : PassState) (before : TapState P) (at : Addr) (bytes : List ℕ) (reply : Reply) (tap : TapState P) (z : Site) → s.hand.home ≡ z → HasAccessed port host s before at (ops.Write at bytes) reply s' tap → Exchanges port.gave port.took z s s'
-  write_exchanges s s' before at bytes reply tap z home a = let k : Plan = plan_of s in let past : History = a.entered.past in
-      subst (λ (q : Site). Exchanges port.gave port.took q s s') home
-      (entry_exchanges port.gave port.took s.hand.home s s' (access_stamp s (ops.Write at bytes) (came tap) reply) [] a.entered
-      (record { given = given_at port.gave port.took (sub_of k at) (is_sealed k past) (is_present k past (sub_of k at)) (is_sealed k past (sub_of k at)) (came tap) refl a.crossed.gave; taken = a.crossed.took }))

@@ -5,6 +5,7 @@ pub mod Crossing
 pub mod Meanings
 pub mod TaskLists
 pub mod JobSteps
+pub mod CallLines
 pub mod CallerLists
 pub mod RunPasses
 pub mod Counting

@@ -61,12 +61,12 @@ pub lines_one : (words : List Word) → lines_for words ≡ length words
 lines_one [] = refl
 lines_one (word ∷ words) = let rest = lines_one words in omega (arith, rest)
 
-module _ {P : Type 0} (gave took : ℕ → List ℕ → Type 0) where
-  done_by : (trace : Trace) (z : Site) (a : ℕ) (js : List (Job P)) → AreDoneJobs gave took trace z a js → length (lines_of js) ≤ all_by a (length js) trace.lines
+module _ {P C : Type 0} (gave took : ℕ → List ℕ → Type 0) (shown written : ℕ → ℕ → Type 0) where
+  done_by : (trace : Trace) (z : Site) (a : ℕ) (js : List (Job P C)) → AreDoneJobs gave took shown written trace z a js → length (lines_of js) ≤ all_by a (length js) trace.lines
   done_by trace z a [] done = omega arith
   done_by trace z a (j ∷ js) done = let rest = done_by trace z (a + 1) js done.1 in let both = length-append j.lines.items (lines_of js) in
       let few = done.0.few in let one = lines_one (commands_by (a + 1) trace.lines) in omega (arith, rest, both, few, one)
 
   -- the callers' lines together are no more than the lines of the trace
-  pub lines_few : (trace : Trace) (z : Site) (js : List (Job P)) → AreDoneJobs gave took trace z 0 js → length (lines_of js) ≤ length trace.lines
+  pub lines_few : (trace : Trace) (z : Site) (js : List (Job P C)) → AreDoneJobs gave took shown written trace z 0 js → length (lines_of js) ≤ length trace.lines
   lines_few trace z js done = let is = done_by trace z 0 js done in let few = all_few (length js) trace.lines in omega (arith, is, few)

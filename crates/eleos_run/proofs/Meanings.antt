@@ -9,6 +9,9 @@ use Rattle.eleos_base.specs.declared.plan.Plan.{Plan}
 use Rattle.eleos_base.specs.Plain as plain
 use Rattle.eleos_base.specs.Plans.{enclave_of, sub_bytes}
 use Rattle.eleos_alloc.specs.Calls.{HasCalled}
+use Rattle.eleos_alloc.specs.Changes.{call_of}
+use Rattle.eleos_alloc.specs.declared.changes.Change.{Change}
+use Rattle.eleos_alloc.specs.declared.changes.Change.TheVariants as changes
 use Rattle.eleos_core.specs.declared.event.Event.{Event}
 use Rattle.eleos_core.specs.declared.event.Event.TheVariants as events
 use Rattle.eleos_base.specs.Places.{subs}
@@ -18,13 +21,13 @@ use Rattle.eleos_machine.specs.Passes.{PassState, plan_of}
 use Rattle.eleos_report.specs.declared.answer.Answer.{Answer}
 use Rattle.eleos_report.specs.declared.answer.Answer.TheVariants.{Skipped}
 use Rattle.eleos_trace.specs.declared.word.Word.{Word}
-use Rattle.eleos_trace.specs.declared.word.Word.TheVariants.{Alloc, Free, Share, Read, Write}
+use Rattle.eleos_trace.specs.declared.word.Word.TheVariants.{Alloc, Free, Share, Read, Write, Call}
 use Rattle.eleos_meaning.specs.Calls.{answer_of, at_offset}
 use Rattle.eleos_meaning.specs.declared.meanings.Meaning.TheVariants.{Happens}
-use Rattle.eleos_meaning.specs.Meanings.{at_name, event_of, is_illegal, meaning_at}
+use Rattle.eleos_meaning.specs.Meanings.{at_name, event_of, is_illegal, meaning_at, meaning_of}
 use Rattle.eleos_meaning.specs.Names.{Names}
-use Rattle.eleos_run.specs.Steps.{AreOnBlocks, home_of}
-use Rattle.eleos_meaning.specs.Table.{Means, bind, is_none, is_skipped, named_row, next, resolve, shown, when}
+use Rattle.eleos_run.specs.Steps.{AreOnBlocks, home_of, word_of}
+use Rattle.eleos_meaning.specs.Table.{Means, bind, is_called, is_none, is_skipped, named_row, next, resolve, shown, when}
 use Rattle.eleos_meaning.specs.Told.{Came, Entered, Replied, Told, answer_in, made_of}
 
 -- ---- events
@@ -51,6 +54,11 @@ alone_is : (op : Op) (is_not : Bool) (event : Event) → (if is_not then None el
 alone_is op true event is = absurd (not_some event is)
 alone_is op false event is = sym (some_is (events.Op op) event is)
 
+-- a call of the host means no event
+no_event : (is_not : Bool) (event : Event) → (if is_not then None else None) ≡ Some event → ⊥
+no_event true event is = not_some event is
+no_event false event is = not_some event is
+
 -- a command of a run
 abbrev pub IsRunWord : Word → Type 0
 IsRunWord (Alloc name bytes) = Unit {0}
@@ -58,15 +66,17 @@ IsRunWord (Free name) = Unit {0}
 IsRunWord (Share name) = Unit {0}
 IsRunWord (Read name offset len) = Unit {0}
 IsRunWord (Write name offset bytes) = Unit {0}
+IsRunWord (Call call bytes room) = Unit {0}
 IsRunWord _ = ⊥
 
--- the event that such a command means is a call
+-- the event that such a command means is a call on memory
 pub resolve_calls : (k : Plan) (names : Names) (word : Word) (reply : Answer) (event : Event) → IsRunWord word → resolve k names word reply ≡ Some event → (op : Op) × (event ≡ events.Op op)
 resolve_calls k names (Alloc name bytes) reply event run is = (ops.Alloc bytes, alone_is (ops.Alloc bytes) (is_illegal reply) event is)
 resolve_calls k names (Free name) reply event run is = let m = called (λ at. ops.Free at) (names name) (is_illegal reply) event is in (ops.Free m.0, m.1)
 resolve_calls k names (Share name) reply event run is = let m = called (λ at. ops.Share at) (names name) (is_illegal reply) event is in (ops.Share m.0, m.1)
 resolve_calls k names (Read name offset len) reply event run is = let m = called (λ at. ops.Read (at_offset at offset) len) (names name) (is_illegal reply) event is in (ops.Read (at_offset m.0 offset) len, m.1)
 resolve_calls k names (Write name offset bytes) reply event run is = let m = called (λ at. ops.Write (at_offset at offset) bytes) (names name) (is_illegal reply) event is in (ops.Write (at_offset m.0 offset) bytes, m.1)
+resolve_calls k names (Call call bytes room) reply event run is = absurd (no_event (is_illegal reply) event is)
 resolve_calls k names _ reply event run is = absurd run
 
 -- a command on blocks made no other entries
@@ -129,6 +139,7 @@ row_alone home names (Free name) way reply after is = (alone way (if is_some (na
 row_alone home names (Share name) way reply after is = (alone way (if is_some (names name) then not (is_skipped reply) else is_skipped reply) names after is, tt)
 row_alone home names (Read name offset len) way reply after is = (alone way (if is_some (names name) then not (is_skipped reply) else is_skipped reply) names after is, tt)
 row_alone home names (Write name offset bytes) way reply after is = (alone way (if is_some (names name) then not (is_skipped reply) else is_skipped reply) names after is, tt)
+row_alone home names (Call call bytes room) way reply after is = (alone way (is_called reply) names after is, tt)
 row_alone home names _ way reply after is = absurd (no_row after is)
 
 -- a command with a bound name, which was not skipped, leaves the names as they are
@@ -138,6 +149,28 @@ bound_row found at reply names is skips = λ i. when (if is_some (is i) then not
 -- so does a skipped command whose name is not bound
 pub unbound_row : (found : Option Addr) (names : Names) → found ≡ None → named_row (is_some found) [] Skipped names ≡ Some names
 unbound_row found names is = λ i. when (if is_some (is i) then false else true) names
+
+-- ---- a free or a share
+
+-- at the address of its name it means the change of the block there
+pub change_at : (k : Plan) (change : Change) (name : List ℕ) (names : Names) (at : Addr) → names name ≡ Some at → event_of (meaning_of k names (word_of change name)) ≡ Some (events.Op (call_of change at))
+change_at k changes.Free name names at is = means_at k (Free name) (names name) at is
+change_at k changes.Share name names at is = means_at k (Share name) (names name) at is
+
+-- and nothing without one
+pub change_none : (k : Plan) (change : Change) (name : List ℕ) (names : Names) → names name ≡ None → event_of (meaning_of k names (word_of change name)) ≡ None
+change_none k changes.Free name names none = means_none k (Free name) (names name) none
+change_none k changes.Share name names none = means_none k (Share name) (names name) none
+
+-- it leaves the names, with such an address
+pub change_bound : (home : ℕ) (change : Change) (name : List ℕ) (names : Names) (at : Addr) (reply : Answer) → names name ≡ Some at → is_skipped reply ≡ false → next home names (word_of change name) [] reply ≡ Some names
+change_bound home changes.Free name names at reply is skips = bound_row (names name) at reply names is skips
+change_bound home changes.Share name names at reply is skips = bound_row (names name) at reply names is skips
+
+-- and without one
+pub change_unbound : (home : ℕ) (change : Change) (name : List ℕ) (names : Names) → names name ≡ None → next home names (word_of change name) [] Skipped ≡ Some names
+change_unbound home changes.Free name names none = unbound_row (names name) names none
+change_unbound home changes.Share name names none = unbound_row (names name) names none
 
 -- ---- the enclave of a block
 

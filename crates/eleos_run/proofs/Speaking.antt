@@ -1,5 +1,5 @@
 -- What is spoken behind a command, from what its call did.
-use Rattle.std.proofs.Common.{◌≡◌, ℕ, ◌<◌, Bool, false, if◌then◌else◌, List, [], ◌∷◌, ◌++◌, length, Some, None, refl, sym, ap, ◌∙◌, arith, append-nil}
+use Rattle.std.proofs.Common.{◌≡◌, ℕ, ◌<◌, Bool, true, false, if◌then◌else◌, List, [], ◌∷◌, ◌++◌, length, Some, None, refl, sym, ap, ◌∙◌, arith, append-nil}
 use Rattle.eleos_alloc.specs.Calls.{HasCalled}
 use Rattle.eleos_base.specs.declared.memory.Op.{Op}
 use Rattle.eleos_base.specs.declared.memory.Reply.{Reply}
@@ -18,9 +18,15 @@ use Rattle.eleos_trace.specs.declared.word.Word.{Word}
 use Rattle.eleos_turn.specs.Hands.{Goes, entries}
 use Rattle.eleos_run.specs.declared.answers.Spoken.{Spoken}
 use Rattle.eleos_meaning.specs.declared.meanings.Meaning.{Meaning}
+use Rattle.eleos_meaning.specs.declared.meanings.Meaning.TheVariants.{Nameless}
+use Rattle.eleos_ring.specs.declared.call.Called.{Called}
+use Rattle.eleos_trace.specs.declared.word.CallWord.{CallWord}
+use Rattle.eleos_trace.specs.declared.word.Word.TheVariants.{Call}
+use Rattle.eleos_run.specs.Calls.{called_answer}
+use Rattle.eleos_run.proofs.CallLines.{called_is}
 use Rattle.eleos_meaning.specs.Calls.{answer_of}
-use Rattle.eleos_meaning.specs.Meanings.{event_in, event_of, meaning_of}
-use Rattle.eleos_meaning.specs.Table.{is_skipped, most_lines, next}
+use Rattle.eleos_meaning.specs.Meanings.{event_in, event_of, is_illegal, meaning_of}
+use Rattle.eleos_meaning.specs.Table.{is_skipped, most_lines, next, when}
 use Rattle.eleos_run.proofs.Meanings.{is_reply}
 use Rattle.eleos_meaning.specs.Told.{Entered, Replied, answer_in, event_answer}
 use Rattle.eleos_meaning.specs.Names.{Names}
@@ -61,6 +67,25 @@ no_call z command said s names meant row few stamp reply turns = record {
   reply_is = reply;
   gives = (row, tt, meant, tt);
   few = few;
+}
+
+-- a call of the host made no entry
+no_event : (illegal : Bool) → (if illegal then None else event_of Nameless) ≡ None
+no_event true = refl
+no_event false = refl
+
+-- a call of the host was answered
+pub host_call : (z : Site) (call : CallWord) (bytes : List ℕ) (room : ℕ) (called : Called) (left : List ℕ) (said : Spoken) (s : PassState) (names : Names) → said.stamp ≡ None → said.reply ≡ called_answer called left → s.hand.turns ≡ [] → Speaks z (Call call bytes room) [] said s s names names
+host_call z call bytes room called left said s names stamp reply turns = record {
+  came = Replied (called_answer called left);
+  has_made = record {
+    goes = record { home = refl; number = refl; left = omega arith; own = sym (append-nil (entries core_terms s.hand)); more = []; sees = sym (append-nil s.hand.seen) };
+    turns = turns;
+  };
+  stamp_is = stamp;
+  reply_is = reply;
+  gives = (ap (λ (b : Bool). when b names) (called_is called left), tt, no_event (is_illegal (called_answer called left)), tt);
+  few = omega arith;
 }
 
 -- by a call on blocks

@@ -5,7 +5,7 @@ use Rattle.eleos_base.specs.declared.plan.Plan.{Plan}
 use Rattle.eleos_trace.specs.declared.trace.Line.{Line}
 use Rattle.eleos_trace.specs.declared.word.Actor as actors
 use Rattle.eleos_trace.specs.declared.word.Word.{Word}
-use Rattle.eleos_trace.specs.declared.word.Word.TheVariants.{Alloc, Free, Share, Read, Write, Tie, Untie, Fill, Evict, Move, Flip, SwapPlaces, Keep, Restore}
+use Rattle.eleos_trace.specs.declared.word.Word.TheVariants.{Alloc, Free, Share, Read, Write, Tie, Untie, Fill, Evict, Move, Flip, SwapPlaces, Keep, Restore, Call}
 use Rattle.eleos_trace.specs.Kinds.{MayRun}
 use Rattle.eleos_run.specs.declared.tasks.Task.{Task}
 use Rattle.eleos_run.specs.Lines.{commands_by, is_by}
@@ -27,6 +27,7 @@ can_run plan who (Flip place bit) may = may
 can_run plan who (SwapPlaces a b) may = may
 can_run plan who (Keep place) may = may
 can_run plan who (Restore place) may = may
+can_run plan who (Call call bytes room) may = (may.1, may.2)
 
 name_later : (old new : NameTable) (word : Word) → KeepsRooms old new → HasName old word → HasName new word
 name_later old new (Alloc name bytes) keeps has = keeps name has
@@ -43,6 +44,7 @@ name_later old new (Flip place bit) keeps has = tt
 name_later old new (SwapPlaces a b) keeps has = tt
 name_later old new (Keep place) keeps has = tt
 name_later old new (Restore place) keeps has = tt
+name_later old new (Call call bytes room) keeps has = tt
 
 -- with more rooms the tasks are ready still
 pub ready_later : (old new : NameTable) (tasks : List Task) → KeepsRooms old new → AllReady old tasks → AllReady new tasks

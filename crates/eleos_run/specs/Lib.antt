@@ -1,4 +1,6 @@
 pub mod Lines
+pub mod Calls
+pub mod Workers
 pub mod Steps
 pub mod Counts
 pub mod Tasks

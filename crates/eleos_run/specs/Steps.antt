@@ -1,5 +1,7 @@
 -- What one command of a caller does to its pass.
 use Rattle.std.specs.Prelude.{◌≡◌, ℕ, ◌<◌, List, [], ◌∷◌, ◌++◌, length}
+use Rattle.eleos_alloc.specs.declared.changes.Change.{Change}
+use Rattle.eleos_alloc.specs.declared.changes.Change.TheVariants as changes
 use Rattle.eleos_base.specs.Plans.{IsCaller, enclave_of}
 use Rattle.eleos_base.specs.declared.memory.Op.{Op}
 use Rattle.eleos_base.specs.declared.memory.Op.TheVariants as ops
@@ -8,6 +10,7 @@ use Rattle.eleos_machine.specs.Machines.{Site, plan_at}
 use Rattle.eleos_machine.specs.Passes.{PassState}
 use Rattle.eleos_plot.specs.Terms.{core_terms}
 use Rattle.eleos_trace.specs.declared.word.Word.{Word}
+use Rattle.eleos_trace.specs.declared.word.Word.TheVariants as words
 use Rattle.eleos_turn.specs.Hands.{Goes}
 use Rattle.eleos_run.specs.declared.answers.Spoken.{Spoken}
 use Rattle.eleos_meaning.specs.Names.{Names}
@@ -29,6 +32,11 @@ pub record HasMade (s s' : PassState) (made : List Made) : Type 0 where
 -- the enclave of the pass's caller
 abbrev pub home_of : Site → PassState → ℕ
 home_of z s = enclave_of (plan_at z) s.hand.number
+
+-- the command that frees or shares the block of the name
+abbrev pub word_of : Change → List ℕ → Word
+word_of changes.Free name = words.Free name
+word_of changes.Share name = words.Share name
 
 -- what was spoken behind the command and told on its way is of the entries that the pass made for it, and the names have their addresses after it
 pub record Speaks (z : Site) (command : Word) (way : List Told) (said : Spoken) (s s' : PassState) (names names' : Names) : Type 0 where

@@ -1,19 +1,21 @@
 -- Tasks of a caller: its commands with their room.
-use Rattle.std.specs.Prelude.{◌≡◌, ℕ, ◌≤◌, List, [], ◌∷◌, length, vec_capacity, IsTrue, Vec}
+use Rattle.std.specs.Prelude.{◌≡◌, ℕ, ◌≤◌, List, [], ◌∷◌, length, replicate, vec_capacity, IsTrue, Vec}
 use Rattle.std.specs.declared.alloc.Global.{Global}
 use Rattle.eleos_trace.specs.declared.word.Word.{Word}
-use Rattle.eleos_trace.specs.declared.word.Word.TheVariants.{Alloc, Free, Share, Read, Write}
+use Rattle.eleos_trace.specs.declared.word.Word.TheVariants.{Alloc, Free, Share, Read, Write, Call}
 use Rattle.eleos_run.specs.declared.tasks.Task.{Task}
 use Rattle.eleos_meaning.specs.declared.names.NameTable.{NameTable}
 use Rattle.eleos_meaning.specs.NameTable.{has_room}
 
--- a command that callers give in a run: their writes have at most 2,048 bytes
+-- a command that callers give in a run: their writes have at most 2,048 bytes, and their calls at
+-- most 1,024 and as much room
 abbrev pub CanRun : Word → Type 0
 CanRun (Alloc name bytes) = Unit {0}
 CanRun (Free name) = Unit {0}
 CanRun (Share name) = Unit {0}
 CanRun (Read name offset len) = Unit {0}
 CanRun (Write name offset bytes) = length bytes ≤ 2048
+CanRun (Call call bytes room) = (length bytes ≤ 1024) × (room ≤ 1024)
 CanRun _ = ⊥
 
 -- an empty room with the bytes of a sub-page
@@ -21,10 +23,11 @@ pub record IsRoom (room : Vec ℕ Global) : Type 0 where
   pub empty : room.items ≡ []
   pub bytes : 1024 ≤ vec_capacity room
 
--- the room is enough for what may be printed behind the command
+-- the room is enough for what may be printed behind the command; that of a call is full of zeros
 abbrev pub IsReadyFor : Word → Vec ℕ Global → Type 0
 IsReadyFor (Read name offset len) room = IsRoom room
 IsReadyFor (Write name offset bytes) room = IsRoom room
+IsReadyFor (Call call bytes most) room = room.items ≡ replicate most 0
 IsReadyFor _ room = Unit {0}
 
 -- the name that an alloc binds has room

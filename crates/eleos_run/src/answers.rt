@@ -13,10 +13,10 @@ ghost use Rattle.eleos_turn.specs.Hands.{entries};
 ghost use Rattle.eleos_meaning.specs.Calls.{answer_of};
 ghost use Rattle.eleos_pages.specs.Exchanges.{Exchanges};
 ghost use Rattle.eleos_meaning.specs.NameTable.{has_room, names_in};
-ghost use Rattle.eleos_run.specs.Steps.{Speaks};
+ghost use Rattle.eleos_run.specs.Steps.{Speaks, word_of};
 ghost use Rattle.eleos_run.specs.Tasks.{KeepsRooms};
 
-use eleos_alloc::{alloc, free, share};
+use eleos_alloc::{Change, alloc, change_block};
 use eleos_base::{AccessRefused, AllocRefused, BlockRefused, List, SUB_BYTES, Sealer};
 use eleos_direct::{read, refuse_read, write};
 use eleos_host::{HostPort, Tap};
@@ -82,41 +82,23 @@ pub(crate) fn answer_alloc<S: Sealer, R: Wait>(
     }
 }
 
-/// Frees the block of the name.
-pub(crate) fn answer_free<S: Sealer, R: Wait>(
+/// Frees or shares the block of the name.
+pub(crate) fn answer_change<S: Sealer, R: Wait>(
     rt: &R,
     machine: &Machine<S>,
     pass: &mut Pass,
     names: &NameTable,
     name: &[u8],
+    change: Change,
 ) -> Spoken
     requires can { CanCall machine.now pass.old }
-    ensures { Speaks machine.now (words.Free name.now) [] result pass.old pass.new
+    ensures { Speaks machine.now (word_of change name.now) [] result pass.old pass.new
         (names_in names.now) (names_in names.now) }
 {
     let Some(at) = names.address_of(name) else {
         return skipped();
     };
-    let answer = free(rt, machine, pass, at);
-    stamped(pass, block_answer(answer))
-}
-
-/// Shares the block of the name.
-pub(crate) fn answer_share<S: Sealer, R: Wait>(
-    rt: &R,
-    machine: &Machine<S>,
-    pass: &mut Pass,
-    names: &NameTable,
-    name: &[u8],
-) -> Spoken
-    requires can { CanCall machine.now pass.old }
-    ensures { Speaks machine.now (words.Share name.now) [] result pass.old pass.new
-        (names_in names.now) (names_in names.now) }
-{
-    let Some(at) = names.address_of(name) else {
-        return skipped();
-    };
-    let answer = share(rt, machine, pass, at);
+    let answer = change_block(rt, machine, pass, at, change);
     stamped(pass, block_answer(answer))
 }
 

@@ -4,6 +4,8 @@
 
 mod answers;
 mod callers;
+mod clients;
+mod host_calls;
 mod jobs;
 pub mod laws;
 mod making;
@@ -11,5 +13,6 @@ mod parting;
 mod runs;
 mod tasks;
 mod threads;
+mod workers;
 
 pub use runs::{RunDone, run};

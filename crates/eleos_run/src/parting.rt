@@ -5,6 +5,7 @@ ghost use Rattle.eleos_report.specs.declared.line.LogLine.TheVariants.{End};
 ghost use Rattle.eleos_run.specs.Callers.{lines_of, passes_of};
 ghost use Rattle.eleos_run.specs.Lines.{stamps_in};
 
+use crate::clients::Client;
 use crate::jobs::Job;
 use eleos_host::HostPort;
 use eleos_machine::Pass;
@@ -22,7 +23,11 @@ pub(crate) fn last_pass(passes: &mut Vec<Pass>) -> Pass
 }
 
 /// Puts the passes of the jobs in one list, and their lines in another.
-pub(crate) fn part<P: HostPort>(jobs: Vec<Job<P>>, passes: &mut Vec<Pass>, log: &mut Vec<LogLine>)
+pub(crate) fn part<P: HostPort, C: Client>(
+    jobs: Vec<Job<P, C>>,
+    passes: &mut Vec<Pass>,
+    log: &mut Vec<LogLine>,
+)
     requires no_passes { passes.old.items ≡ [] }
     requires no_lines { log.old.items ≡ [] }
     requires passes_room { length jobs.items ≤ vec_capacity passes.old }
@@ -36,6 +41,8 @@ pub(crate) fn part<P: HostPort>(jobs: Vec<Job<P>>, passes: &mut Vec<Pass>, log: 
         let Job {
             pass,
             tap: _tap,
+            ring: _ring,
+            client: _client,
             names: _names,
             tasks: _tasks,
             lines,

@@ -6,18 +6,24 @@ ghost use Rattle.eleos_trace.specs.Kinds.{IsRun};
 ghost use Rattle.eleos_turn.specs.Hands.{dealt, fresh};
 ghost use Rattle.eleos_run.specs.Callers.{AreDoneJobs};
 ghost use Rattle.eleos_run.specs.Runs.{IsRunOf};
+ghost use Rattle.eleos_run.specs.Workers.{AreWorkers};
 
+use crate::clients::{Client, clients_of};
 use crate::jobs::Job;
 use crate::making::jobs_of;
 use crate::parting::{last_pass, part, with_end, with_pass};
-use crate::threads::perform_each;
+use crate::threads::perform_beside;
+use crate::workers::{Worker, workers_for, workers_of};
 use eleos_base::{Gate, List, NoMemory};
 use eleos_gcm::Gcm;
 use eleos_host::{HostPort, HostSpace};
 use eleos_machine::{CloseRefused, Machine, MakeRefused, Pass, fault_of};
 use eleos_report::LogLine;
 use eleos_trace::Trace;
+use eleos_words::{RingPort, RingSpace};
+use eleos_work::Jobs;
 use std::alloc::Global;
+use std::collections::VecDeque;
 use std::sync::Wait;
 use std::thread::Threads;
 
@@ -29,17 +35,19 @@ pub struct RunDone {
 }
 
 /// Runs the programs of a trace's callers, each in a thread of its own where one can be made, over
-/// one
-/// machine with this host. All memory is taken before they start.
-pub fn run<R: Threads + Wait + Sync, H: HostSpace + Sync, G: Gate + Sync>(
+/// one machine with this host, beside workers that do the jobs of their calls by the words of this
+/// ring. All memory is taken before they start.
+pub fn run<R: Threads + Wait + Sync, H: HostSpace + Sync, W: RingSpace, G: Gate + Sync>(
     rt: &R,
     alloc: Global,
     trace: &Trace,
     host: &H,
+    ring: &W,
     gate: &G,
 ) -> Result<RunDone, NoMemory>
     requires { IsRun trace.now }
-    ensures { IfOk result (λ done. IsRunOf H.Port.gave H.Port.took trace.now done.pass done.log) }
+    ensures { IfOk result (λ done. IsRunOf H.Port.gave H.Port.took
+        W.Port.showed W.Port.wrote trace.now done.pass done.log) }
 {
     let Ok(sealer) = Gcm::new(trace.key.as_slice()) else {
         unreachable!()
@@ -49,18 +57,19 @@ pub fn run<R: Threads + Wait + Sync, H: HostSpace + Sync, G: Gate + Sync>(
         unreachable!()
     };
     match Machine::make(alloc, &trace.plan, sealer) {
-        Ok((machine, passes)) => run_on(rt, alloc, trace, host, gate, machine, passes),
+        Ok((machine, passes)) => run_on(rt, alloc, trace, host, ring, gate, machine, passes),
         Err(MakeRefused::NoMemory) => Err(NoMemory),
         Err(MakeRefused::BadPlan { .. }) => unreachable!(),
     }
 }
 
 /// Runs the programs on the machine that was made for them, and closes it.
-fn run_on<R: Threads + Wait + Sync, H: HostSpace + Sync, G: Gate + Sync>(
+fn run_on<R: Threads + Wait + Sync, H: HostSpace + Sync, W: RingSpace, G: Gate + Sync>(
     rt: &R,
     alloc: Global,
     trace: &Trace,
     host: &H,
+    ring: &W,
     gate: &G,
     machine: Machine<Gcm>,
     passes: Vec<Pass>,
@@ -70,24 +79,64 @@ fn run_on<R: Threads + Wait + Sync, H: HostSpace + Sync, G: Gate + Sync>(
     requires plan { machine.base.grounds.plan ≡ trace.now.plan }
     requires key { machine.base.grounds.key ≡ trace.now.key }
     requires passes { hands_of passes.items ≡ dealt machine 0 (all_passes trace.now.plan) }
-    ensures { IfOk result (λ done. IsRunOf H.Port.gave H.Port.took trace.now done.pass done.log) }
+    ensures { IfOk result (λ done. IsRunOf H.Port.gave H.Port.took
+        W.Port.showed W.Port.wrote trace.now done.pass done.log) }
+{
+    let count = trace.plan.callers.len() as u32;
+    let (workplace, spare) = Jobs::make(alloc, count)?;
+    let mut spare = spare;
+    let clients = clients_of(rt, alloc, &workplace, ring, count, &mut spare)?;
+    let workers = workers_of(alloc, &workplace, ring, count, workers_for(trace), spare)?;
+    run_beside(
+        rt, alloc, trace, host, gate, &workplace, machine, passes, clients, workers,
+    )
+}
+
+/// Runs the programs by these ways to the host, beside these workers of it.
+fn run_beside<
+    R: Threads + Wait + Sync,
+    H: HostSpace + Sync,
+    C: Client + Send,
+    Q: RingPort + Send,
+    G: Gate + Sync,
+>(
+    rt: &R,
+    alloc: Global,
+    trace: &Trace,
+    host: &H,
+    gate: &G,
+    workplace: &Jobs,
+    machine: Machine<Gcm>,
+    passes: Vec<Pass>,
+    clients: VecDeque<C>,
+    workers: Vec<Worker<Q>>,
+) -> Result<RunDone, NoMemory>
+    requires run { IsRun trace.now }
+    requires machine { IsMachine machine }
+    requires plan { machine.base.grounds.plan ≡ trace.now.plan }
+    requires key { machine.base.grounds.key ≡ trace.now.key }
+    requires passes { hands_of passes.items ≡ dealt machine 0 (all_passes trace.now.plan) }
+    requires clients { length clients.items ≡ length trace.now.plan.callers }
+    requires workers { AreWorkers workplace.now workers.items }
+    ensures { IfOk result (λ done. IsRunOf H.Port.gave H.Port.took
+        C.shown C.written trace.now done.pass done.log) }
 {
     let mut callers = passes;
     let balloon = last_pass(&mut callers);
     let swapper = last_pass(&mut callers);
-    let mut jobs = jobs_of(alloc, trace, host, &machine, callers)?;
+    let jobs = jobs_of(alloc, trace, host, &machine, callers, clients)?;
     let log = Vec::with_capacity(alloc, trace.lines.len() + 1)?;
     let passes = Vec::with_capacity(alloc, jobs.len() + 2)?;
-    perform_each(rt, &machine, gate, &mut jobs);
+    let jobs = perform_beside(rt, &machine, gate, workplace, jobs, workers);
     Ok(finish(trace, machine, jobs, swapper, balloon, passes, log))
 }
 
 /// Puts together what the callers left, in the room for all passes and for the log, and closes the
 /// machine.
-fn finish<P: HostPort>(
+fn finish<P: HostPort, C: Client>(
     _trace: &Trace,
     machine: Machine<Gcm>,
-    jobs: Vec<Job<P>>,
+    jobs: Vec<Job<P, C>>,
     swapper: Pass,
     balloon: Pass,
     passes: Vec<Pass>,
@@ -97,7 +146,7 @@ fn finish<P: HostPort>(
     requires machine { IsMachine machine }
     requires plan { machine.base.grounds.plan ≡ _trace.now.plan }
     requires key { machine.base.grounds.key ≡ _trace.now.key }
-    requires done { AreDoneJobs P.gave P.took _trace.now machine 0 jobs.items }
+    requires done { AreDoneJobs P.gave P.took C.shown C.written _trace.now machine 0 jobs.items }
     requires count { length jobs.items ≡ length _trace.now.plan.callers }
     requires swapper { swapper.hand ≡ fresh machine (length _trace.now.plan.callers + 1) }
     requires balloon { balloon.hand ≡ fresh machine (length _trace.now.plan.callers + 1 + 1) }
@@ -105,7 +154,7 @@ fn finish<P: HostPort>(
     requires no_lines { log.items ≡ [] }
     requires passes_room { length jobs.items + 2 ≤ vec_capacity passes }
     requires log_room { length _trace.now.lines + 1 ≤ vec_capacity log }
-    ensures { IsRunOf P.gave P.took _trace.now result.pass result.log }
+    ensures { IsRunOf P.gave P.took C.shown C.written _trace.now result.pass result.log }
 {
     let mut passes = passes;
     let mut lines = log;

@@ -12,8 +12,8 @@ use eleos_trace::{Actor, Trace, Word};
 use std::alloc::Global;
 use std::collections::VecDeque;
 
-/// A command that a caller is to give, with the room of a text or of a block that may be printed
-/// behind it.
+/// A command that a caller is to give, with the room of a text, of a block or of a reply that may
+/// be printed behind it.
 #[derive(Drop)]
 pub(crate) struct Task {
     pub command: Word,
@@ -60,16 +60,23 @@ fn copy_of(alloc: Global, command: &Word) -> Result<Word, NoMemory>
             offset: *offset,
             bytes: bytes.copy(alloc)?,
         },
+        Word::Call { call, bytes, room } => Word::Call {
+            call: *call,
+            bytes: bytes.copy(alloc)?,
+            room: *room,
+        },
         _ => unreachable!(),
     })
 }
 
-/// The room of what may be printed behind the command: a text, or a block that did not pass.
+/// The room of what may be printed behind the command: a text, a block that did not pass, or the
+/// reply to a call.
 fn room_for(alloc: Global, command: &Word) -> Result<Vec<u8>, NoMemory>
     ensures { IfOk result (λ room. IsReadyFor command.now room) }
 {
     Ok(match command {
         Word::Read { .. } | Word::Write { .. } => Vec::with_capacity(alloc, MOST_TEXT)?,
+        Word::Call { room, .. } => vec![in alloc; 0; *room as usize]?,
         _ => Vec::new(alloc),
     })
 }

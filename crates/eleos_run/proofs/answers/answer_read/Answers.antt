@@ -11,7 +11,8 @@ use Rattle.eleos_meaning.specs.Calls.{answer_of}
 use Rattle.eleos_meaning.specs.NameTable.{names_in}
 use Rattle.eleos_machine.specs.Machines.{plan_at}
 use Rattle.eleos_pages.proofs.Crossing.{nothing_exchanges}
-use Rattle.eleos_run.proofs.Crossing.{read_exchanges, refused_exchanges}
+use Rattle.eleos_direct.proofs.Exchanged.{read_exchanges}
+use Rattle.eleos_run.proofs.Crossing.{refused_exchanges}
 use Rattle.eleos_run.proofs.Meanings.{bound_row, means_at, means_none, unbound_row}
 use Rattle.eleos_run.proofs.Speaking.{access_call, no_call}
 use Rattle.eleos_run.proofs.answers.answer_read.Goals as goal

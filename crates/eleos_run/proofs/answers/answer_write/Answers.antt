@@ -8,7 +8,7 @@ use Rattle.eleos_trace.specs.declared.word.Word.TheVariants as words
 use Rattle.eleos_meaning.specs.NameTable.{names_in}
 use Rattle.eleos_machine.specs.Machines.{plan_at}
 use Rattle.eleos_pages.proofs.Crossing.{nothing_exchanges}
-use Rattle.eleos_run.proofs.Crossing.{write_exchanges}
+use Rattle.eleos_direct.proofs.Exchanged.{write_exchanges}
 use Rattle.eleos_run.proofs.Meanings.{bound_row, means_at, means_none, unbound_row}
 use Rattle.eleos_run.proofs.Speaking.{access_call, no_call}
 use Rattle.eleos_run.proofs.answers.answer_write.Goals as goal

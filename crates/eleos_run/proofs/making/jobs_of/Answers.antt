@@ -21,16 +21,23 @@ job_of-requires-clause-unused g c _ _ = let inv = c.loop-pass.invariant in let y
     let next = next_dealt c.args.machine.now 0 (length c.args.trace.now.plan.callers) ys rest x is in
     let number : x.hand.number ≡ 0 + length ys + 1 = ap (λ (h : HandState Stamp Part Ground). h.number) next.0 in next.0 ∙ ap (fresh c.args.machine.now) (sym number)
 
+pub next_client-client-requires : goal.next_client-client-requires
+next_client-client-requires g c = let inv = c.loop-pass.invariant in let ys : List PassState = c.loop-pass.yielded in let rest : List PassState = c.next.new.self.rest.items in let x : PassState = c.in-Some.pass in
+    let is = ap hands_of (sym (inv.split ∙ ap (λ (z : List PassState). ys ++ z) c.in-Some.ensures.steps.0)) ∙ c.requires.passes in
+    let next = next_dealt c.args.machine.now 0 (length c.args.trace.now.plan.callers) ys rest x is in
+    let below = next.1 in let all = inv.clients in let many = c.requires.clients in omega (arith, below, all, many)
+
 pub loop-pass-preserved : goal.loop-pass-preserved
 loop-pass-preserved g c = let inv = c.loop-pass.invariant in let ys : List PassState = c.loop-pass.yielded in let rest : List PassState = c.next.new.self.rest.items in let x : PassState = c.in-Some.pass in
     let is = ap hands_of (sym (inv.split ∙ ap (λ (z : List PassState). ys ++ z) c.in-Some.ensures.steps.0)) ∙ c.requires.passes in
     let next = next_dealt c.args.machine.now 0 (length c.args.trace.now.plan.callers) ys rest x is in
     let number : x.hand.number ≡ 0 + length ys + 1 = ap (λ (h : HandState Stamp Part Ground). h.number) next.0 in
-    let old : List (Job g.row.P.Denot) = c.loop-pass.jobs.items in let job : Job g.row.P.Denot = c.in_ok-job_of.field-0 in let count : length old ≡ length ys = inv.count in
+    let old : List (Job g.row.P.Denot g.row.C.Denot) = c.loop-pass.jobs.items in let job : Job g.row.P.Denot g.row.C.Denot = c.in_ok-job_of.field-0 in let count : length old ≡ length ys = inv.count in
     let items : c.push.new.self.items ≡ old ++ job ∷ [] = c.in_ok-push.ensures.items in record {
       split = inv.split ∙ (ap (λ (z : List PassState). ys ++ z) c.in-Some.ensures.steps.0 ∙ sym (append_assoc ys (x ∷ []) rest));
       len = let was = inv.len in let one = ap length c.in-Some.ensures.steps.0 in let fewer = c.in-Some.ensures.steps.1 in omega (arith, was, one, fewer);
       count = let a = ap length items in let b = length-append old (job ∷ []) in let d = length-append ys (x ∷ []) in omega (arith, a, b, d, count);
+      clients = let was = inv.clients in let one = ap length c.next_client-client.ensures in let d = length-append ys (x ∷ []) in omega (arith, was, one, d);
       jobs = subst (AreNewJobs c.args.trace.now c.args.machine.now 0) (sym items) (new_snoc c.args.trace.now c.args.machine.now 0 x.hand.number old job (omega (arith, number, count)) inv.jobs c.in_ok-job_of.ensures);
     }
 

@@ -1,4 +1,4 @@
-use Rattle.std.proofs.Common.{◌≡◌, ◌++◌, length}
+use Rattle.std.proofs.Common.{◌≡◌, ◌+◌, ◌++◌, length}
 use Rattle.eleos_run.specs.Callers.{AreNewJobs}
 use Rattle.eleos_run.proofs.making.jobs_of.Given as goal
 
@@ -8,5 +8,6 @@ invariant-loop-pass g l = record {
   split : l.fn.passes.items ≡ l.yielded ++ l.pass-iterator.rest.items;
   len : length l.pass-iterator.rest.items ≡ l.pass-iterator.rest.len;
   count : length l.jobs.items ≡ length l.yielded;
+  clients : length l.clients.items + length l.yielded ≡ length l.fn.clients.items;
   jobs : AreNewJobs l.trace l.machine 0 l.jobs.items;
 }
