@@ -4,6 +4,7 @@
 use eleos_base::{Gate, Status, StdSink, StdSource};
 use eleos_host::{SharedHost, ToldHost};
 use eleos_top::main_top;
+use eleos_words::{RING_WORDS, WordRing};
 use std::process::ExitCode;
 use std::{env, io};
 
@@ -25,6 +26,9 @@ fn main(rt: HostRuntime) -> io::Result<ExitCode> {
     // They have no place until a trace is read.
     let mut told = ToldHost::new(alloc);
     let mut shared = SharedHost::new(alloc);
+    let Ok(ring) = WordRing::make(alloc, RING_WORDS) else {
+        return Ok(ExitCode::from(Status::Memory.code()));
+    };
     let status = main_top(
         &rt,
         alloc,
@@ -33,6 +37,7 @@ fn main(rt: HostRuntime) -> io::Result<ExitCode> {
         &mut sink,
         &mut told,
         &mut shared,
+        &&ring,
         &OpenGate,
     )
     .status();

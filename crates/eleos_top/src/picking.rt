@@ -17,6 +17,7 @@ use crate::running::{RunEnd, run_top};
 use crate::top::is_word;
 use eleos_base::{Gate, Sink, Source, Status};
 use eleos_host::{HostHand, HostOpener, HostPort, HostRoom};
+use eleos_words::RingSpace;
 use std::alloc::Global;
 use std::sync::Wait;
 use std::thread::Threads;
@@ -43,14 +44,15 @@ impl MainEnd {
 }
 
 /// Makes the top call that the first word names. A replay takes its blocks from the told host, and
-/// a
-/// run from the other, with this gate before its commands.
+/// a run from the other; its calls go through the words of this ring, and it has this gate before
+/// its commands.
 pub fn main_top<
     R: Threads + Wait + Sync,
     S: Source,
     K: Sink,
     P: HostPort + HostHand + HostRoom,
     H: HostOpener,
+    W: RingSpace,
     G: Gate + Sync,
 >(
     rt: &R,
@@ -60,10 +62,12 @@ pub fn main_top<
     sink: &mut K,
     told: &mut P,
     host: H,
+    ring: &W,
     gate: &G,
 ) -> MainEnd
     ensures run { first_of (map (λ word. string_bytes word) words.now) ≡ Some (codes "run")
-        → IsRunEnd (λ end. RunEndsBy (IsRunOf H.Space.Port.gave H.Space.Port.took)
+        → IsRunEnd (λ end. RunEndsBy
+        (IsRunOf H.Space.Port.gave H.Space.Port.took W.Port.showed W.Port.wrote)
         (map (λ word. string_bytes word) words.now) end
         (S.left source.old) (K.got sink.old) (K.got sink.new)
         (S.faults source.old) (S.faults source.new) (K.faults sink.old) (K.faults sink.new)) result }
@@ -90,7 +94,7 @@ pub fn main_top<
         → Keeps (K.got sink.old) (K.got sink.new) }
 {
     if starts_with(words, "run") {
-        MainEnd::Run(run_top(rt, alloc, words, source, sink, host, gate))
+        MainEnd::Run(run_top(rt, alloc, words, source, sink, host, ring, gate))
     } else if starts_with(words, "replay") {
         MainEnd::Plain(replay_top(alloc, words, source, sink, told))
     } else if starts_with(words, "gcm") {

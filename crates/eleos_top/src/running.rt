@@ -19,6 +19,7 @@ use eleos_machine::Pass;
 use eleos_report::{LogLine, push_line};
 use eleos_run::run;
 use eleos_trace::{Kind, places};
+use eleos_words::RingSpace;
 use std::alloc::Global;
 use std::sync::Wait;
 use std::thread::Threads;
@@ -37,26 +38,34 @@ pub struct RunEnd {
 /// log.
 ///
 /// With status 0 the bytes put are the log of the run: each caller's commands once and in order,
-/// and
-/// each entry of the machine's one history just one line. With another status nothing is put, the
-/// line
-/// that refuses the input, or a front. Where memory is wanting only when the log is printed, the
+/// each entry of the machine's one history just one line, and behind each call the host's reply to
+/// it, by words of the ring. With another status nothing is put, the line that refuses the input,
+/// or a front. Where memory is wanting only when the log is printed, the
 /// callers have run, and nothing is put.
-pub fn run_top<R: Threads + Wait + Sync, S: Source, K: Sink, H: HostOpener, G: Gate + Sync>(
+pub fn run_top<
+    R: Threads + Wait + Sync,
+    S: Source,
+    K: Sink,
+    H: HostOpener,
+    W: RingSpace,
+    G: Gate + Sync,
+>(
     rt: &R,
     alloc: Global,
     words: &[String],
     source: &mut S,
     sink: &mut K,
     host: H,
+    ring: &W,
     gate: &G,
 ) -> RunEnd
     ensures puts { PutsBy (trace_of Run)
-        (IsRunText (IsRunOf H.Space.Port.gave H.Space.Port.took) result) result.status
+        (IsRunText (IsRunOf H.Space.Port.gave H.Space.Port.took W.Port.showed W.Port.wrote) result)
+        result.status
         (S.left source.old) (K.got sink.old) (K.got sink.new)
         (K.faults sink.old) (K.faults sink.new) }
-    ensures ran { RanBy (IsRunOf H.Space.Port.gave H.Space.Port.took) result.status
-        (S.left source.old) result }
+    ensures ran { RanBy (IsRunOf H.Space.Port.gave H.Space.Port.took W.Port.showed W.Port.wrote)
+        result.status (S.left source.old) result }
 
     ensures usage { (result.status ≡ Status.Usage)
         ↔ (map (λ word. string_bytes word) words.now ≢ codes "run" ∷ []) }
@@ -79,7 +88,7 @@ pub fn run_top<R: Threads + Wait + Sync, S: Source, K: Sink, H: HostOpener, G: G
     let Ok(space) = host.open(places(&trace.plan)) else {
         return none_ran(alloc, Status::Memory);
     };
-    let Ok(done) = run(rt, alloc, &trace, &space, gate) else {
+    let Ok(done) = run(rt, alloc, &trace, &space, ring, gate) else {
         return none_ran(alloc, Status::Memory);
     };
     RunEnd {

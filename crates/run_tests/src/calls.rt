@@ -3,6 +3,7 @@
 use eleos_base::{Gate, ListSink, ListSource, Status};
 use eleos_host::{SharedHost, ToldHost};
 use eleos_top::{MainEnd, main_top};
+use eleos_words::{RING_WORDS, RingSpace, WordRing};
 use std::alloc::Global;
 use std::sync::Wait;
 use std::test::Fail;
@@ -40,6 +41,18 @@ pub fn made<R: Threads + Wait + Sync, G: Gate + Sync>(
     gate: &G,
     call: Call<'_>,
 ) -> Result<Came, Fail> {
+    let ring = WordRing::make(alloc, RING_WORDS)?;
+    made_by(rt, alloc, &&ring, gate, call)
+}
+
+/// The same by the words of this ring.
+pub fn made_by<R: Threads + Wait + Sync, W: RingSpace, G: Gate + Sync>(
+    rt: &R,
+    alloc: Global,
+    ring: &W,
+    gate: &G,
+    call: Call,
+) -> Result<Came, Fail> {
     let words = vec![in alloc; call.word.to_string(alloc)?]?;
     let failing = listed(alloc, call.failing_take)?;
     let mut source = ListSource::new(call.input.as_bytes().to_vec(alloc)?, failing);
@@ -54,6 +67,7 @@ pub fn made<R: Threads + Wait + Sync, G: Gate + Sync>(
         &mut sink,
         &mut told,
         &mut shared,
+        ring,
         gate,
     );
     ended(alloc, &end, &sink)

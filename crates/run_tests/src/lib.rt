@@ -7,4 +7,6 @@ mod calls;
 #[cfg(test)]
 mod faults;
 #[cfg(test)]
+mod lying;
+#[cfg(test)]
 mod meeting;
