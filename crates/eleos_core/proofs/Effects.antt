@@ -1,5 +1,6 @@
 -- What an event came to: it was applied, refused for what it offends against, or wanted memory.
-use Rattle.std.proofs.Common.{◌≡◌, ℕ, List, [], length, All, Option, Some, IfSome, Result, Ok, Err, refl, sym, subst}
+use Rattle.std.proofs.Common.{◌≡◌, ℕ, List, [], length, All, Option, Some, IfSome, Result, Ok, Err, slice_index_or, slice_set, refl, sym, ◌∙◌, subst, ap}
+use Rattle.std.proofs.lemmas.List.{set-get_or}
 use Rattle.std.specs.Result.{IsErrAnd}
 use Rattle.eleos_base.specs.declared.memory.Part.{Part as Offence}
 use Rattle.eleos_base.specs.declared.memory.Reply.{Reply}
@@ -24,6 +25,10 @@ no_offence (Err e) part only same = cc
 -- what is said of the offence that was found
 pub said_of : (P : Offence → Type 0) (found : Option Offence) (part : Offence) → found ≡ Some part → IfSome found P → P part
 said_of P found part is holds = let said : IfSome (Some part) P = subst (λ o. IfSome o P) is holds in said
+
+-- what is put back at its place changes nothing
+pub set_back : {X : Type 0} (xs : List X) (i : ℕ) (was now : X) → was ≡ slice_index_or xs i was → now ≡ was → slice_set xs i now ≡ xs
+set_back xs i was now value same = ap (slice_set xs i) (same ∙ value) ∙ set-get_or xs i was
 
 module _ (x : Seals) (old : Cells) (who : ℕ) (event : Event) (given : List (List ℕ)) where
   -- it is refused for what it offends against

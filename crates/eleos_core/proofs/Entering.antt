@@ -11,8 +11,9 @@ use Rattle.eleos_core.specs.declared.cells.frame.Use.TheVariants.{Free, Lent}
 use Rattle.eleos_core.specs.declared.cells.page.Page.{Page}
 use Rattle.eleos_core.specs.declared.cells.page.Present.{Present}
 use Rattle.eleos_core.specs.declared.cells.sub_page.SubPage.{SubPage}
+use Rattle.eleos_core.specs.Accesses.{AreBlocks}
 use Rattle.eleos_core.specs.Applying.{Makes, parts_in}
-use Rattle.eleos_core.specs.Cells.{Cells, IsPage, IsPresent, IsSubPage, IsUse, IsCore, cells_of, frame_of_page, holder_of_use, part_of_frame, part_of_page}
+use Rattle.eleos_core.specs.Cells.{Cells, IsPage, IsPresent, IsSubPage, IsUse, IsCore, cells_of, frame_of_page, holder_of_use, part_of_frame, part_of_page, sub_size}
 use Rattle.eleos_core.specs.Fills.{AreFit, CanFillIn, IsFree, IsJudged, fill_stamp, page_in, sealed_places}
 use Rattle.eleos_core.specs.Legal.{IsActor}
 use Rattle.eleos_core.specs.Parts.{frame_cell, frame_in, holder_in, page_cell, part_after, the_frame, the_page}
@@ -71,8 +72,8 @@ module _ (k : Plan) (live : List (List Live)) (clocks : List (List ℕ)) (pages 
   fill_free = is_free (all_pages k) frame.used (frame_kept k live clocks pages frames links core f frame_exists frame frame_is) (ap holder_in (sym frame_was) ∙ legal.free)
 
   -- blocks that came for the page by its cell came for the page in memory
-  pub fill_fit : (cs : List (List ℕ)) → AreFit (sealed_places p (page_in old_cells p)) cs → AreFit (sealed_places p (part_of_page page)) cs
-  fill_fit cs fit = subst (λ q. AreFit (sealed_places p q) cs) page_was fit
+  pub fill_fit : (cs : List (List ℕ)) → AreBlocks (sealed_places p (page_in old_cells p)) cs → AreFit (sealed_places p (part_of_page page)) cs
+  fill_fit cs fit = subst (λ q. AreFit (sealed_places p q) cs) page_was (record { count = fit.count; sizes = All-from_recursion (λ (block : List ℕ). length block ≡ sub_size) cs fit.each })
 
   -- the page afterwards
   pub page_entered : (page' : Page) → page'.subs ≡ page.subs → IsPresent (f + 1) page'.present → IsPage k.wear (all_frames k) page'

@@ -1,17 +1,11 @@
 -- What tests of owners and of links tell.
-use Rattle.std.proofs.Common.{◌≡◌, ◌≢◌, ℕ, ◌+◌, ◌*◌, ◌<◌, ◌≤◌, List, [], ◌∷◌, length, count_by, cond, slice_index, slice_index_or, if◌then◌else◌, Bool, true, false, not, Option, Some, None, is_some, nat_eq, refl, sym, subst, ◌∙◌, ap, arith, eq-eqb}
+use Rattle.std.proofs.Common.{◌≡◌, ◌≢◌, ℕ, ◌+◌, ◌*◌, ◌<◌, ◌≤◌, List, length, slice_index, slice_index_or, Bool, true, false, not, Option, Some, None, is_some, nat_eq, refl, subst, ◌∙◌, ap, arith, eq-eqb}
 use Rattle.std.specs.Option.{option_eq}
 use Rattle.std.proofs.lemmas.Bool.{eqb-true}
 use Rattle.std.proofs.lemmas.List.{get_or_default}
-use Rattle.std.proofs.lemmas.List.Sums.{sum_by-cons}
 use Rattle.std.proofs.lemmas.Nat.{mul-add-lt}
-use Rattle.eleos_base.specs.Lists.{map_from}
 use Rattle.eleos_core.specs.declared.cells.page.Present.{Present}
-use Rattle.eleos_core.specs.declared.cells.page.Page.{Page}
-use Rattle.eleos_core.specs.declared.cells.sub_page.SubPage.{SubPage}
-use Rattle.eleos_core.specs.Cells.{frame_of_page, part_of_page, part_with, piece, sub_parts}
-use Rattle.eleos_core.specs.Fills.{sealed_places}
-use Rattle.eleos_core.specs.Parts.{sealed_from}
+use Rattle.eleos_core.specs.Cells.{frame_of_page}
 use Rattle.eleos_base.specs.Places.{Owner}
 
 -- what is not denied holds

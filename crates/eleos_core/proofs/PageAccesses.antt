@@ -24,7 +24,7 @@ use Rattle.eleos_core.specs.Legal.{ByBlocks, failed, passed}
 use Rattle.eleos_core.specs.Parts.{CallOn, Part, SubPart, blank_sub, found_in, frame_in, is_worn_in, opened_in, page_part, seals_in, sub_after, subs_in}
 use Rattle.eleos_base.specs.Places.{page_of, per_page, sub_of}
 use Rattle.eleos_core.specs.Seals.{Seals}
-use Rattle.eleos_core.proofs.AccessParts.{access_verdict, accepted_range, accessed, by_failed, by_passed, if_false, if_true, legal_by, no_blocks, opened_in-absent, opened_places-absent, puts_from-none, puts_from-one, sub_for-is, verdict-absent, verdict-present, write-changed, write-kept, write_is}
+use Rattle.eleos_core.proofs.AccessParts.{access_verdict, accepted_range, accessed, by_failed, by_passed, if_false, if_true, legal_by, no_blocks, opened_in-absent, puts_from-none, puts_from-one, sub_for-is, verdict-absent, verdict-present, write-changed, write-kept, write_is}
 use Rattle.eleos_core.proofs.PageParts.{bytes_in, length-sub_parts, part_at_index, piece-changed, piece-kept}
 use Rattle.eleos_core.proofs.Spots.{IsInRange, and_false, index_is, place_is, range_is, writes_at}
 

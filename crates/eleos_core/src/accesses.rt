@@ -1,11 +1,8 @@
 // Reads and writes of a machine's memory.
 ghost use Rattle.std.specs.Prelude.{◌≡◌, length, map, All, IfOk, OnErr};
-ghost use Rattle.eleos_base.specs.Plans.{IsCaller};
-ghost use Rattle.eleos_core.specs.Accesses.{AreBlocks, call_places, read_stamp, refusal_on};
-ghost use Rattle.eleos_core.specs.Accesses.{write_stamp};
-ghost use Rattle.eleos_core.specs.Applying.{Makes, parts_in, put_of, puts_in};
-ghost use Rattle.eleos_core.specs.Cells.{sub_size};
-ghost use Rattle.eleos_core.specs.Seals.{seals_by};
+ghost use Rattle.eleos_core.specs.Words.{AreBlocks, IsCaller, Makes, call_places, parts_in, put_of};
+ghost use Rattle.eleos_core.specs.Words.{puts_in, read_stamp, refusal_on, seals_by, sub_size};
+ghost use Rattle.eleos_core.specs.Words.{write_stamp};
 
 mod pages;
 mod places;
@@ -16,13 +13,12 @@ mod writes;
 
 use crate::accesses::pages::{read_page, write_page};
 use crate::accesses::refusals::refusal_reply;
-use crate::event::{Block, Event};
-use crate::machine::{Core, Effect};
+use crate::{Block, Core, Effect, Event};
 use eleos_base::{Addr, NoMemory, Op, Reply, Sealer};
 pub use pages::only_reply;
 pub use reads::{read_absent, read_present};
 pub use refusals::{use_refusal, write_refusal};
-pub use spots::{Spot, is_in_range, spot_of};
+pub use spots::{Spot, enclave_of, first_sub, is_in_range, spot_of, subs_of};
 use std::alloc::Global;
 pub use writes::{write_absent, write_present};
 

@@ -1,17 +1,14 @@
 // Allocs, frees and shares of a machine's memory.
 ghost use Rattle.std.specs.Prelude.{◌≡◌, IfOk, OnErr};
-ghost use Rattle.eleos_base.specs.Plans.{IsCaller};
-ghost use Rattle.eleos_core.specs.Allots.{Allots};
+ghost use Rattle.eleos_core.specs.Words.{Allots, IsCaller};
 
-mod homes;
 mod lists;
 mod marks;
 
 use crate::allots::lists::{lowest_in, owned_in, put_in, share_in, take_from};
 use crate::allots::marks::mark_run;
-use crate::machine::Core;
+use crate::{Core, enclave_of, first_sub, subs_of};
 use eleos_base::{Addr, Live, MOST_BLOCK_BYTES, NoMemory, Op, Reply, SUB_BYTES};
-pub use homes::{enclave_of, first_sub, subs_of};
 pub use marks::{Mark, mark_sub};
 
 impl Core {

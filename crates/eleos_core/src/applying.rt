@@ -1,23 +1,15 @@
 // Applying events to a machine: what is not legal is refused, and the rest is made on the cells.
-ghost use Rattle.std.specs.Prelude.{◌≡◌, length, All, Err, IfOk, OnErr};
-ghost use Rattle.eleos_core.specs.Accesses.{AreBlocks};
-ghost use Rattle.eleos_core.specs.Applying.{AlwaysApplies, AlwaysIllegal};
-ghost use Rattle.eleos_core.specs.Cells.{sub_size};
-ghost use Rattle.eleos_core.specs.Legal.{IsWithin};
-ghost use Rattle.eleos_core.specs.Memory.{MayWantMemory};
-ghost use Rattle.eleos_core.specs.Needs.{needed};
-ghost use Rattle.eleos_core.specs.Seals.{seals_by};
+ghost use Rattle.std.specs.Prelude.{◌≡◌, All, Err, IfOk, length, OnErr};
 ghost use Rattle.eleos_base.specs.declared.memory.Part.{Part as Offence};
+ghost use Rattle.eleos_core.specs.Words.{AlwaysApplies, AlwaysIllegal, AreBlocks, IsCaller};
+ghost use Rattle.eleos_core.specs.Words.{IsWithin, MayWantMemory, Outcome, needed, seals_by};
+ghost use Rattle.eleos_core.specs.Words.{sub_size};
 
-mod calls;
-mod frames;
-mod links;
 mod needs;
-mod waits;
 
-use crate::event::{Block, Event};
-use crate::machine::{ApplyRefused, Core, Effect};
-use eleos_base::Sealer;
+use crate::accesses::only_reply;
+use crate::{ApplyRefused, Block, Core, Effect, Event};
+use eleos_base::{Op, Sealer};
 pub use needs::Places;
 use std::alloc::Global;
 
@@ -64,6 +56,38 @@ impl Core {
                 goal,
                 sweep,
             } => self.apply_survey(alloc, *enclave, *goal, sweep.as_slice()),
+        }
+    }
+
+    /// Applies a call on memory, which is never illegal. After want of memory nothing has changed.
+    pub(crate) fn apply_call<S: Sealer>(
+        &mut self,
+        alloc: Global,
+        sealer: &S,
+        who: u32,
+        op: &Op,
+        blocks: &[Block],
+    ) -> Result<Effect, ApplyRefused>
+        requires within { IsCaller self.old.plan who }
+        requires blocks { AreBlocks (needed self.old who (Event.Op op.now)) blocks.now }
+        ensures { Outcome (seals_by (S.key sealer.now)) self.old who (Event.Op op.now) blocks.now
+            result self.new }
+    {
+        match op {
+            Op::Alloc { bytes } => {
+                let reply = self.alloc(who, *bytes)?;
+                Ok(only_reply(alloc, reply))
+            }
+            Op::Free { at } => Ok(only_reply(alloc, self.free(who, *at))),
+            Op::Share { at } => Ok(only_reply(alloc, self.share(who, *at))),
+            Op::Read { at, len } => {
+                let reply = self.read(alloc, sealer, who, *at, *len, blocks)?;
+                Ok(only_reply(alloc, reply))
+            }
+            Op::Write { at, bytes } => {
+                let effect = self.write(alloc, sealer, who, *at, bytes.as_slice(), blocks)?;
+                Ok(effect)
+            }
         }
     }
 }

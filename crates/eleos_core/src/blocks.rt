@@ -2,8 +2,7 @@
 ghost use Rattle.std.specs.Prelude.{◌≡◌, ◌<◌, ◌≤◌, length, nat_lt, vec_capacity};
 ghost use Rattle.std.specs.Prelude.{map, filter, not, IsOk, OnOk, OnErr};
 ghost use Rattle.std.specs.List.{find, position, position_or_len};
-ghost use Rattle.eleos_base.specs.Plain.{lowest_run, with_block, starts_at, shared_at};
-ghost use Rattle.eleos_core.specs.Order.{AreInOrder};
+ghost use Rattle.eleos_core.specs.Words.{AreInOrder, lowest_run, shared_at, starts_at, with_block};
 
 use eleos_base::{Addr, Live, NoMemory, SUB_BYTES};
 

@@ -1,50 +1,43 @@
 // A page leaves its frame.
-ghost use Rattle.std.specs.Prelude.{◌≡◌, ◌<◌, ℕ, length, map, All, IfOk, OnErr, MatchOption, Some};
+ghost use Rattle.std.specs.Prelude.{◌<◌, [], ℕ, MatchOption};
 ghost use Rattle.std.specs.Bool.{OnTrue, OnFalse};
-ghost use Rattle.eleos_core.specs.Applying.{Makes, parts_in, put_of, puts_in};
-ghost use Rattle.eleos_core.specs.Cells.{sub_size};
-ghost use Rattle.eleos_core.specs.Evicts.{evict_stamp};
-ghost use Rattle.eleos_core.specs.Fills.{page_in};
-ghost use Rattle.eleos_core.specs.Legal.{IsActor};
-ghost use Rattle.eleos_core.specs.Offences.{CanEvictIn, IsLinked, IsUnlinked, OffendsEvict};
-ghost use Rattle.eleos_core.specs.Parts.{frame_in};
-ghost use Rattle.eleos_base.specs.Places.{all_frames, all_pages};
-ghost use Rattle.eleos_core.specs.Seals.{seals_by};
+ghost use Rattle.eleos_core.specs.Words.{CanEvictIn, IsActor, IsLinked, IsUnlinked, OffendsEvict};
+ghost use Rattle.eleos_core.specs.Words.{Outcome, all_frames, all_pages, seals_by};
 
 mod sealing;
 
-use crate::event::Event;
 use crate::evicts::sealing::leave;
 use crate::frames::is_in;
-use crate::machine::{Core, Put};
-use eleos_base::{List, NoMemory, Part, SUBS_PER_PAGE, Sealer};
+use crate::{ApplyRefused, Core, Effect, Event};
+use eleos_base::{List, Part, Reply, SUBS_PER_PAGE, Sealer};
 use std::alloc::Global;
 
 impl Core {
-    /// The page leaves the frame, which is free again.
+    /// The page leaves the frame, where that is legal, and the frame is free again.
     /// Each dirty sub-page is sealed, and its block goes to the host.
-    pub(crate) fn evict<S: Sealer>(
+    pub(crate) fn apply_evict<S: Sealer>(
         &mut self,
         alloc: Global,
         sealer: &S,
         page: u32,
         frame: u32,
-    ) -> Result<List<Put>, NoMemory>
+    ) -> Result<Effect, ApplyRefused>
         requires page { page < all_pages self.old.plan }
         requires frame { frame < all_frames self.old.plan }
-        requires present { frame_in (page_in self.old page) ≡ Some frame }
-        ensures makes { IfOk result (λ puts. (who : ℕ) → IsActor self.old.plan who
-            → Makes (seals_by (S.key sealer.now)) (evict_stamp who page frame) self.old self.new) }
-        ensures puts { IfOk result (λ puts. (who : ℕ) → map put_of puts
-            ≡ puts_in self.old.plan (seals_by (S.key sealer.now)) (evict_stamp who page frame)
-            (parts_in self.old) (Event.Evict page frame)) }
-        ensures blocks { IfOk result (λ puts. All (λ put. length put.block ≡ sub_size) puts) }
-        ensures err { OnErr result (self.new ≡ self.old) }
+        ensures { (who : ℕ) → IsActor self.old.plan who
+            → Outcome (seals_by (S.key sealer.now)) self.old who (Event.Evict page frame) []
+            result self.new }
     {
+        if let Some(part) = self.evict_offence(page, frame) {
+            return Err(ApplyRefused::Illegal { part });
+        }
         let left = &mut self.pages[page as usize];
         let freed = &mut self.frames[frame as usize];
         let puts = leave(alloc, sealer, left, freed, page * SUBS_PER_PAGE)?;
-        Ok(List::of(puts))
+        Ok(Effect {
+            reply: Reply::Done,
+            puts: List::of(puts),
+        })
     }
 
     /// What an evict of the page from the frame would offend against.

@@ -1,24 +1,19 @@
 // A page is put into a frame.
-ghost use Rattle.std.specs.Prelude.{◌≡◌, ◌<◌, ℕ, take, MatchOption};
-ghost use Rattle.eleos_core.specs.Applying.{Makes};
-ghost use Rattle.eleos_core.specs.Fills.{AreFit, CanFillIn, IsJudged};
-ghost use Rattle.eleos_core.specs.Fills.{fill_stamp, page_in, sealed_places};
-ghost use Rattle.eleos_core.specs.Legal.{IsActor};
-ghost use Rattle.eleos_core.specs.Offences.{OffendsFill};
-ghost use Rattle.eleos_base.specs.Places.{all_frames, all_pages};
-ghost use Rattle.eleos_core.specs.Seals.{seals_by};
+ghost use Rattle.std.specs.Prelude.{◌<◌, ℕ, MatchOption};
+ghost use Rattle.eleos_core.specs.Words.{AreBlocks, CanFillIn, IsActor, OffendsFill, Outcome};
+ghost use Rattle.eleos_core.specs.Words.{all_frames, all_pages, page_in, sealed_places, seals_by};
 
 mod opening;
 
-use crate::event::Block;
+use crate::accesses::only_reply;
 use crate::fills::opening::enter;
 use crate::frames::{home_of, is_free};
-use crate::machine::Core;
+use crate::{ApplyRefused, Block, Core, Effect, Event};
 use eleos_base::{Part, Reply, Sealer};
 pub use opening::{Spoiled, open_subs};
+use std::alloc::Global;
 
-/// What a fill came to, and how many of the given blocks it used: those up to the first that did
-/// not pass.
+/// What a fill came to, and how many blocks it used: those up to the first that did not pass.
 #[derive(Debug, Drop)]
 pub struct Filled {
     pub reply: Reply,
@@ -26,28 +21,31 @@ pub struct Filled {
 }
 
 impl Core {
-    /// Puts an absent page into a free frame of its enclave, with what its blocks open to.
-    /// Where a block does not pass nothing changes.
-    pub(crate) fn fill<S: Sealer>(
+    /// Puts an absent page into a free frame of its enclave, where that is legal, with what its
+    /// blocks open to: one for each sealed sub-page, in rising order of place. Where one does not
+    /// pass nothing changes.
+    pub(crate) fn apply_fill<S: Sealer>(
         &mut self,
+        alloc: Global,
         sealer: &S,
         page: u32,
         frame: u32,
         blocks: &[Block],
-    ) -> Filled
+    ) -> Result<Effect, ApplyRefused>
         requires page { page < all_pages self.old.plan }
         requires frame { frame < all_frames self.old.plan }
-        requires legal { CanFillIn self.old page frame }
-        requires fit { AreFit (sealed_places page (page_in self.old page)) blocks.now }
-        ensures judged { IsJudged self.old.plan (seals_by (S.key sealer.now)) page
-            (page_in self.old page) blocks.now result.used result.reply }
-        ensures makes { (who : ℕ) → IsActor self.old.plan who → Makes (seals_by (S.key sealer.now))
-            (fill_stamp who page frame (take result.used blocks.now) result.reply)
-            self.old self.new }
+        requires blocks { AreBlocks (sealed_places page (page_in self.old page)) blocks.now }
+        ensures { (who : ℕ) → IsActor self.old.plan who
+            → Outcome (seals_by (S.key sealer.now)) self.old who (Event.Fill page frame)
+            blocks.now result self.new }
     {
+        if let Some(part) = self.fill_offence(page, frame) {
+            return Err(ApplyRefused::Illegal { part });
+        }
         let filled = &mut self.pages[page as usize];
         let lent = &mut self.frames[frame as usize];
-        enter(sealer, filled, page, lent, frame, blocks)
+        let came = enter(sealer, filled, page, lent, frame, blocks);
+        Ok(only_reply(alloc, came.reply))
     }
 
     /// What a fill of the page into the frame would offend against.

@@ -1,10 +1,7 @@
 // Pages and frames: what fills, evicts and moves share.
 ghost use Rattle.std.specs.Prelude.{◌≡◌, ◌↔◌, ◌≤◌, ℕ, length, IsTrue, Some, None};
-ghost use Rattle.eleos_base.specs.Plain.{zeros};
-ghost use Rattle.eleos_base.specs.Plans.{page_bytes};
-ghost use Rattle.eleos_core.specs.Cells.{frame_of_page, holder_of_use};
-ghost use Rattle.eleos_core.specs.Fills.{IsFree};
-ghost use Rattle.eleos_base.specs.Places.{home_of};
+ghost use Rattle.eleos_core.specs.Words.{IsFree, frame_of_page, holder_of_use, home_of, page_bytes};
+ghost use Rattle.eleos_core.specs.Words.{zeros};
 
 use crate::cells::{Frame, Page, Use};
 use eleos_base::Plan;

@@ -1,16 +1,12 @@
 // Links on pages, which keep them in their frames.
-ghost use Rattle.std.specs.Prelude.{◌≡◌, ◌+◌, ◌-◌, ◌*◌, ◌^◌, ◌<◌, ◌≤◌, IfOk, OnErr, IsTrue, Some};
-ghost use Rattle.std.specs.Prelude.{None, nat_le, if◌then◌else◌};
-ghost use Rattle.eleos_base.specs.Plans.{IsCaller};
-ghost use Rattle.eleos_core.specs.Accesses.{link_stamp, may_link, unlink_stamp};
-ghost use Rattle.eleos_core.specs.Applying.{Makes};
-ghost use Rattle.eleos_core.specs.Cells.{links_in};
-ghost use Rattle.eleos_base.specs.Places.{all_pages, page_of, sub_of};
-ghost use Rattle.eleos_core.specs.Seals.{Seals};
+ghost use Rattle.std.specs.Prelude.{◌≡◌, ◌<◌, ◌≤◌, ◌+◌, ◌-◌, ◌*◌, [], nat_le, None, Some};
+ghost use Rattle.std.specs.Prelude.{if◌then◌else◌};
+ghost use Rattle.eleos_core.specs.Words.{IsCaller, Outcome, Seals, all_pages, links_in, may_link};
 
-use crate::accesses::spot_of;
-use crate::machine::Core;
-use eleos_base::{Addr, NoMemory, Part, Reply};
+use crate::accesses::only_reply;
+use crate::{ApplyRefused, Core, Effect, Event, spot_of};
+use eleos_base::{Addr, Part, Reply};
+use std::alloc::Global;
 
 impl Core {
     /// What a link at the address offends against, where it is not legal: it is not refused, and
@@ -31,28 +27,31 @@ impl Core {
         }
     }
 
-    /// Links the page of the address once more for the caller. A caller that has 2^64 - 1 links of
-    /// it gets want of memory, after which nothing has changed.
-    pub(crate) fn link(&mut self, who: u32, at: Addr) -> Result<Reply, NoMemory>
+    /// Links the page of the address once more for the caller, where that is legal. A caller that
+    /// has 2^64 - 1 links of it gets want of memory, after which nothing has changed.
+    pub(crate) fn apply_link(
+        &mut self,
+        alloc: Global,
+        who: u32,
+        at: Addr,
+    ) -> Result<Effect, ApplyRefused>
         requires caller { IsCaller self.old.plan who }
-        requires legal { IsTrue (may_link self.old who at) }
-        ensures makes { (x : Seals)
-            → IfOk result (λ reply. Makes x (link_stamp who at reply) self.old self.new) }
-        ensures full { OnErr result (
-            links_in self.old who (page_of self.old.plan (sub_of self.old.plan at)) ≡ 2 ^ 64 - 1) }
-        ensures err { OnErr result (self.new ≡ self.old) }
+        ensures { (x : Seals) → Outcome x self.old who (Event.Link at) [] result self.new }
     {
+        if let Some(part) = self.link_offence(who, at) {
+            return Err(ApplyRefused::Illegal { part });
+        }
         if let Some(refusal) = self.access_refusal(who, at, 1) {
-            return Ok(refusal);
+            return Ok(only_reply(alloc, refusal));
         }
         let page = spot_of(&self.plan, at).page;
         let place = link_place(self.pages.len(), who, page);
         let links = self.links[place];
         let Some(more) = links.checked_add(1) else {
-            return Err(NoMemory);
+            return Err(ApplyRefused::NoMemory);
         };
         self.links[place] = more;
-        Ok(Reply::Done)
+        Ok(only_reply(alloc, Reply::Done))
     }
 
     /// What an unlink offends against, where it is not legal: the caller has no link of the page.
@@ -70,16 +69,23 @@ impl Core {
         }
     }
 
-    /// Takes one of the caller's links from the page.
-    pub(crate) fn unlink(&mut self, who: u32, page: u32) -> Reply
+    /// Takes one of the caller's links from the page, where there is one.
+    pub(crate) fn apply_unlink(
+        &mut self,
+        alloc: Global,
+        who: u32,
+        page: u32,
+    ) -> Result<Effect, ApplyRefused>
         requires caller { IsCaller self.old.plan who }
         requires page { page < all_pages self.old.plan }
-        requires linked { 1 ≤ links_in self.old who page }
-        ensures { (x : Seals) → Makes x (unlink_stamp who page result) self.old self.new }
+        ensures { (x : Seals) → Outcome x self.old who (Event.Unlink page) [] result self.new }
     {
+        if let Some(part) = self.unlink_offence(who, page) {
+            return Err(ApplyRefused::Illegal { part });
+        }
         let place = link_place(self.pages.len(), who, page);
         self.links[place] -= 1;
-        Reply::Done
+        Ok(only_reply(alloc, Reply::Done))
     }
 }
 

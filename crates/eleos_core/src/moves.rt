@@ -1,42 +1,41 @@
 // A free frame goes from an enclave to the pool or back.
-ghost use Rattle.std.specs.Prelude.{◌≡◌, ◌+◌, ◌<◌, ◌==◌, ◌++◌, ◌∷◌, ℕ, [], filter, length, not};
-ghost use Rattle.std.specs.Prelude.{MatchOption, OnOk, OnErr};
-ghost use Rattle.eleos_core.specs.Applying.{Makes};
-ghost use Rattle.eleos_core.specs.Legal.{IsActor, IsOwner, OneIsPool};
-ghost use Rattle.eleos_core.specs.Moves.{CanMoveIn, move_stamp};
-ghost use Rattle.eleos_core.specs.Offences.{OffendsMove};
-ghost use Rattle.eleos_core.specs.Parts.{clock_cell};
-ghost use Rattle.eleos_base.specs.Places.{all_frames};
-ghost use Rattle.eleos_core.specs.Seals.{Seals};
+ghost use Rattle.std.specs.Prelude.{◌≡◌, ◌<◌, ◌+◌, ◌++◌, ◌∷◌, ◌==◌, [], ℕ, filter, length};
+ghost use Rattle.std.specs.Prelude.{MatchOption, not, OnErr, OnOk};
+ghost use Rattle.eleos_core.specs.Words.{CanMoveIn, IsActor, IsOwner, OffendsMove, OneIsPool};
+ghost use Rattle.eleos_core.specs.Words.{Outcome, Seals, all_frames, clock_cell};
 
-use crate::cells::Clock;
+use crate::accesses::only_reply;
 use crate::frames::is_free;
-use crate::machine::Core;
-use eleos_base::{NoMemory, Part, Plan};
+use crate::{ApplyRefused, Clock, Core, Effect, Event};
+use eleos_base::{NoMemory, Part, Plan, Reply};
+use std::alloc::Global;
 
 impl Core {
-    /// The frame leaves its owner's list, where the gap closes, and goes last in the other's.
-    pub(crate) fn move_frame(
+    /// The free frame leaves its owner's list, where that is legal. The gap closes, and the frame
+    /// goes last in the other's.
+    pub(crate) fn apply_move(
         &mut self,
+        alloc: Global,
         frame: u32,
         from: Option<u16>,
         to: Option<u16>,
-    ) -> Result<(), NoMemory>
+    ) -> Result<Effect, ApplyRefused>
         requires frame { frame < all_frames self.old.plan }
         requires from { IsOwner self.old.plan from }
         requires to { IsOwner self.old.plan to }
         requires one_is_pool { OneIsPool from to }
-        requires legal { CanMoveIn self.old frame from }
-        ensures makes { OnOk result ((x : Seals) (who : ℕ) → IsActor self.old.plan who
-            → Makes x (move_stamp who frame from to) self.old self.new) }
-        ensures err { OnErr result (self.new ≡ self.old) }
+        ensures { (x : Seals) (who : ℕ) → IsActor self.old.plan who
+            → Outcome x self.old who (Event.Move frame from to) [] result self.new }
     {
+        if let Some(part) = self.move_offence(frame, from) {
+            return Err(ApplyRefused::Illegal { part });
+        }
         let joined = clock_place(&self.plan, to);
         let left = clock_place(&self.plan, from);
         add_last(&mut self.clocks[joined], frame)?;
         remove(&mut self.clocks[left], frame);
         self.frames[frame as usize].owner = to;
-        Ok(())
+        Ok(only_reply(alloc, Reply::Done))
     }
 
     /// What a move of the frame from this owner would offend against.

@@ -1,8 +1,6 @@
 // The machine before its first event.
 ghost use Rattle.std.specs.Prelude.{◌≡◌, ◌≤◌, ◌*◌, [], replicate, IfOk};
-ghost use Rattle.eleos_base.specs.Plans.{IsGood};
-ghost use Rattle.eleos_core.specs.Applying.{Shows};
-ghost use Rattle.eleos_core.specs.Seals.{Seals};
+ghost use Rattle.eleos_core.specs.Words.{IsGood, Seals, Shows};
 
 mod frames;
 mod lives;

@@ -1,8 +1,7 @@
 // Searches among frames: what a sweep saw of them.
 ghost use Rattle.std.specs.Prelude.{◌≡◌, ◌↔◌, IsTrue};
 ghost use Rattle.std.specs.List.{list_all};
-ghost use Rattle.eleos_base.specs.Words.{is_taken};
-ghost use Rattle.eleos_core.specs.Sweeps.{IsTaken};
+ghost use Rattle.eleos_core.specs.Words.{IsTaken, is_taken};
 
 mod lists;
 mod quiet;

@@ -1,15 +1,10 @@
 // Which block an access takes from the host.
 ghost use Rattle.std.specs.Prelude.{◌≡◌, [], option_to_list, if◌then◌else◌};
-ghost use Rattle.eleos_base.specs.Plans.{IsCaller};
-ghost use Rattle.eleos_core.specs.Accesses.{block_places, call_places, taken_places};
-ghost use Rattle.eleos_core.specs.Cells.{part_with};
-ghost use Rattle.eleos_core.specs.Legal.{IsWithin};
+ghost use Rattle.eleos_core.specs.Words.{IsCaller, IsWithin, block_places, call_places, part_with};
+ghost use Rattle.eleos_core.specs.Words.{taken_places};
 
 use crate::accesses::refusals::is_worn;
-use crate::accesses::spots::spot_of;
-use crate::cells::SubPage;
-use crate::event::Event;
-use crate::machine::Core;
+use crate::{Core, Event, SubPage, spot_of};
 use eleos_base::{Addr, Op};
 
 impl Core {
@@ -63,9 +58,5 @@ fn place_to_open(is_present: bool, sub: &SubPage, place: u32) -> Option<u32>
     ensures { option_to_list result
         ≡ (if is_present then [] else block_places place (part_with sub.now [])) }
 {
-    if is_present || sub.tag.is_none() {
-        None
-    } else {
-        Some(place)
-    }
+    (!is_present && sub.tag.is_some()).then_some(place)
 }

@@ -1,18 +1,12 @@
 // Reads within one sub-page, on the cell of its page, into a lent buffer.
 ghost use Rattle.std.specs.Prelude.{◌≡◌, ◌+◌, ◌*◌, ◌≤◌, ◌<◌, [], length, take, drop, IsSome, IfErr};
 ghost use Rattle.std.specs.Prelude.{IsTrue, OnErr, None};
-ghost use Rattle.eleos_base.specs.Places.{all_frames, sub_of};
-ghost use Rattle.eleos_base.specs.Plans.{IsCaller, IsGood};
-ghost use Rattle.eleos_core.specs.Accesses.{IsAccess, ReadsOn, refusal_for, sub_for};
-ghost use Rattle.eleos_core.specs.Cells.{IsPage, part_of_page, piece, sub_size};
-ghost use Rattle.eleos_base.specs.Answers.{read_reply};
-ghost use Rattle.eleos_core.specs.Seals.{Seals, seals_by};
-ghost use Rattle.eleos_core.specs.Texts.{came_for};
+ghost use Rattle.eleos_core.specs.Words.{IsAccess, IsCaller, IsGood, IsPage, ReadsOn, Seals};
+ghost use Rattle.eleos_core.specs.Words.{all_frames, came_for, part_of_page, piece, read_reply};
+ghost use Rattle.eleos_core.specs.Words.{refusal_for, seals_by, sub_for, sub_of, sub_size};
 
-use crate::accesses::refusals::use_refusal;
-use crate::accesses::spots::spot_of;
-use crate::cells::Page;
 use crate::texts::{TEXT_BYTES, open_text, piece_of};
+use crate::{Page, spot_of, use_refusal};
 use eleos_base::{AccessRefused, Addr, Plan, Sealer};
 
 /// Reads within one sub-page of a page in a frame into the buffer.

@@ -1,8 +1,6 @@
 // Why an access is refused, and what the refusal is as a reply.
 ghost use Rattle.std.specs.Prelude.{◌≡◌, ◌==◌, ◌&&◌, not, option_map};
-ghost use Rattle.eleos_base.specs.Plain.{use_refusal};
-ghost use Rattle.eleos_core.specs.Accesses.{write_refusal};
-ghost use Rattle.eleos_base.specs.Answers.{access_refusal_reply};
+ghost use Rattle.eleos_core.specs.Words.{access_refusal_reply, use_refusal, write_refusal};
 
 use crate::cells::SubPage;
 use eleos_base::{AccessRefused, Live, Plan, Reply};

@@ -1,9 +1,7 @@
-// Where an address lies among pages and sub-pages.
+// Where an address and an enclave lie among pages and sub-pages.
 ghost use Rattle.std.specs.Prelude.{◌≡◌, ◌<◌, ◌≤◌, length};
-ghost use Rattle.eleos_base.specs.Plain.{is_in_range};
-ghost use Rattle.eleos_base.specs.Plans.{IsGood, sub_bytes};
-ghost use Rattle.eleos_core.specs.Accesses.{IsSpot};
-ghost use Rattle.eleos_base.specs.Places.{subs};
+ghost use Rattle.eleos_core.specs.Words.{IsCaller, IsGood, IsSpot, enclave_of, first_sub};
+ghost use Rattle.eleos_core.specs.Words.{is_in_range, sub_bytes, subs};
 
 use eleos_base::{Addr, Plan, SUB_BYTES, SUBS_PER_PAGE, first_page};
 
@@ -47,4 +45,30 @@ pub fn is_in_range(plan: &Plan, enclave: u16, at: Addr, len: usize) -> bool
         && len <= SUB_BYTES as usize
         && (at.at % SUB_BYTES) as usize + len <= SUB_BYTES as usize
         && at.at as usize + len <= subs as usize * SUB_BYTES as usize
+}
+
+/// The caller's enclave.
+pub fn enclave_of(plan: &Plan, who: u32) -> u16
+    requires { IsCaller plan.now who }
+    ensures { result ≡ enclave_of plan.now who }
+{
+    plan.callers.as_slice()[who as usize - 1]
+}
+
+/// The number of the enclave's first sub-page.
+pub fn first_sub(plan: &Plan, enclave: u16) -> u32
+    requires good { IsGood plan.now }
+    requires enclave { enclave < length plan.now.enclaves }
+    ensures { result ≡ first_sub plan.now enclave }
+{
+    first_page(plan, enclave) * SUBS_PER_PAGE
+}
+
+/// How many sub-pages the enclave has.
+pub fn subs_of(plan: &Plan, enclave: u16) -> u32
+    requires good { IsGood plan.now }
+    requires enclave { enclave < length plan.now.enclaves }
+    ensures { result ≡ subs plan.now enclave }
+{
+    plan.enclaves.as_slice()[enclave as usize].pages * SUBS_PER_PAGE
 }

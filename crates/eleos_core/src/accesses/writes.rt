@@ -1,19 +1,13 @@
 // Writes within one sub-page, on the cell of its page.
 ghost use Rattle.std.specs.Prelude.{◌≡◌, ◌+◌, ◌*◌, ◌≤◌, ◌<◌, ◌^◌, ◌∷◌, [], length, IsSome, IfErr};
 ghost use Rattle.std.specs.Prelude.{IsTrue, OnErr, None, false, is_ok, if◌then◌else◌};
-ghost use Rattle.eleos_base.specs.Places.{all_frames, sub_of};
-ghost use Rattle.eleos_base.specs.Plans.{IsCaller, IsGood};
-ghost use Rattle.eleos_core.specs.Accesses.{IsAccess, WritesOn, refusal_for, sealed_by, sub_for};
-ghost use Rattle.eleos_core.specs.Cells.{IsPage, part_of_page, sub_size};
-ghost use Rattle.eleos_core.specs.Parts.{is_worn_in};
-ghost use Rattle.eleos_base.specs.Answers.{write_reply};
-ghost use Rattle.eleos_core.specs.Seals.{Seals, seals_by};
-ghost use Rattle.eleos_core.specs.Texts.{came_for};
+ghost use Rattle.eleos_core.specs.Words.{IsAccess, IsCaller, IsGood, IsPage, Seals, WritesOn};
+ghost use Rattle.eleos_core.specs.Words.{all_frames, came_for, is_worn_in, part_of_page};
+ghost use Rattle.eleos_core.specs.Words.{refusal_for, sealed_by, seals_by, sub_for, sub_of};
+ghost use Rattle.eleos_core.specs.Words.{sub_size, write_reply};
 
-use crate::accesses::refusals::write_refusal;
-use crate::accesses::spots::spot_of;
-use crate::cells::Page;
 use crate::texts::{TEXT_BYTES, put_at, reseal_text};
+use crate::{Page, spot_of, write_refusal};
 use eleos_base::{AccessRefused, Addr, Plan, Sealer};
 
 /// Writes within one sub-page of a page in a frame. The sub-page is dirty then.

@@ -2,12 +2,10 @@
 ghost use Rattle.std.specs.Prelude.{◌≡◌, ◌≤◌, not, map, filter, OnOk, OnErr, IfOk, Some};
 ghost use Rattle.std.specs.List.{find};
 ghost use Rattle.std.specs.Result.{result_err};
-ghost use Rattle.eleos_base.specs.Plain.{block_refusal, lowest_run};
-ghost use Rattle.eleos_base.specs.Plain.{shared_at, starts_at, with_block};
-ghost use Rattle.eleos_core.specs.Order.{AreInOrder};
+ghost use Rattle.eleos_core.specs.Words.{AreInOrder, block_refusal, lowest_run, shared_at};
+ghost use Rattle.eleos_core.specs.Words.{starts_at, with_block};
 
-use crate::blocks::{add_block, block_at, lowest_run, remove_at, share_at};
-use crate::cells::Alloc;
+use crate::{Alloc, add_block, block_at, lowest_run, remove_at, share_at};
 use eleos_base::{Addr, Live, NoMemory, Reply};
 
 /// The start of the lowest free run of so many of the enclave's sub-pages.

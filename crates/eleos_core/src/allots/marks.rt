@@ -1,12 +1,10 @@
 // What becomes of the sub-pages of a block.
 ghost use Rattle.std.specs.Prelude.{◌≡◌, ◌+◌, ◌*◌, ◌<◌, ◌≤◌, ℕ, List, Bool, Option, length, map};
 ghost use Rattle.std.specs.List.{splice};
-ghost use Rattle.eleos_base.specs.Plain.{zeros};
-ghost use Rattle.eleos_core.specs.Allots.{ArePages, IsCleared, IsWholePage, KeepsPage, KeepsPages};
-ghost use Rattle.eleos_core.specs.Allots.{marked, marked_block, marked_bytes};
-ghost use Rattle.eleos_core.specs.Allots.{run_marked, with_marked};
-ghost use Rattle.eleos_core.specs.Cells.{IsPresent, IsSubPage, part_of_page, part_with};
 ghost use Rattle.eleos_core.specs.declared.cells.page.Present.{Present as AFrame};
+ghost use Rattle.eleos_core.specs.Words.{ArePages, IsCleared, IsPresent, IsSubPage, IsWholePage};
+ghost use Rattle.eleos_core.specs.Words.{KeepsPage, KeepsPages, marked, marked_block, marked_bytes};
+ghost use Rattle.eleos_core.specs.Words.{part_of_page, part_with, run_marked, with_marked, zeros};
 
 use crate::cells::{Page, Present, SubPage};
 use eleos_base::{Live, SUB_BYTES, SUBS_PER_PAGE};

@@ -1,19 +1,11 @@
 // Which blocks an event takes from the host.
 ghost use Rattle.std.specs.Prelude.{◌≡◌, ◌<◌, ◌≤◌, ◌+◌, ◌++◌, ◌∷◌, ◌^◌, [], length, map};
-ghost use Rattle.eleos_core.specs.Cells.{part_with, subs_per_page};
-ghost use Rattle.eleos_core.specs.Fills.{page_in, sealed_places};
-ghost use Rattle.eleos_core.specs.Parts.{sealed_from};
-ghost use Rattle.eleos_core.specs.Quiet.{wanted_page, wanted_part};
-ghost use Rattle.eleos_core.specs.Accesses.{taken_places};
-ghost use Rattle.eleos_core.specs.Legal.{IsWithin};
-ghost use Rattle.eleos_core.specs.Needs.{AlwaysCovers, needed};
-ghost use Rattle.eleos_base.specs.Places.{all_pages};
+ghost use Rattle.eleos_core.specs.Words.{AlwaysCovers, IsWithin, all_pages, needed, page_in};
+ghost use Rattle.eleos_core.specs.Words.{part_with, sealed_from, sealed_places, subs_per_page};
+ghost use Rattle.eleos_core.specs.Words.{taken_places, wanted_page, wanted_part};
 
-use crate::accesses::spot_of;
-use crate::cells::SubPage;
-use crate::event::{Event, Wanted};
-use crate::machine::Core;
 use crate::sweeps::address_of;
+use crate::{Core, Event, SubPage, Wanted, spot_of};
 use eleos_base::SUBS_PER_PAGE;
 use std::marker::Model;
 

@@ -1,12 +1,8 @@
 // The frames before the first event, and who owns them.
 ghost use Rattle.std.specs.Prelude.{◌≡◌, ◌+◌, ◌≤◌, ◌++◌, ℕ, None, map, replicate, IfOk, OnOk};
 ghost use Rattle.std.specs.List.{range_with_len};
-ghost use Rattle.eleos_base.specs.Plain.{zeros};
-ghost use Rattle.eleos_base.specs.Plans.{IsGood};
-ghost use Rattle.eleos_core.specs.Cells.{IsUse, part_of_frame};
-ghost use Rattle.eleos_core.specs.Opening.{AreFrames, opening_clocks, opening_frame};
-ghost use Rattle.eleos_core.specs.Parts.{frame_part};
-ghost use Rattle.eleos_base.specs.Places.{all_frames};
+ghost use Rattle.eleos_core.specs.Words.{AreFrames, IsGood, IsUse, all_frames, frame_part};
+ghost use Rattle.eleos_core.specs.Words.{opening_clocks, opening_frame, part_of_frame, zeros};
 
 use crate::cells::{Clock, Frame, Use};
 use eleos_base::{NoMemory, PAGE_BYTES, Plan};

@@ -1,12 +1,8 @@
 // The live blocks of each enclave before the first event.
 ghost use Rattle.std.specs.Prelude.{◌≡◌, ◌<◌, ◌≤◌, [], length, IfOk, OnOk};
-ghost use Rattle.eleos_base.specs.Plans.{IsGood};
-ghost use Rattle.eleos_core.specs.Opening.{opening_lives, with_header};
-ghost use Rattle.eleos_core.specs.Order.{AreInOrder};
-ghost use Rattle.eleos_core.specs.State.{live};
+ghost use Rattle.eleos_core.specs.Words.{AreInOrder, IsGood, live, opening_lives, with_header};
 
-use crate::blocks::{add_block, lowest_run};
-use crate::cells::Alloc;
+use crate::{Alloc, add_block, lowest_run};
 use eleos_base::{BlockPlan, Live, NoMemory, Plan, SUB_BYTES, SUBS_PER_PAGE};
 use std::alloc::Global;
 

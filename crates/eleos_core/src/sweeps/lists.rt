@@ -1,5 +1,4 @@
-// The frames that a sweep names: whether they are those of a list, and whether they differ. Each is
-// counted where it stands, so that a sweep is judged without memory.
+// Whether a sweep's frames are those of a list, and whether they differ, counted without memory.
 ghost use Rattle.std.specs.Prelude.{◌≡◌, ◌↔◌, ◌==◌, IsTrue, IsPermutation, count_by, nat_eq};
 ghost use Rattle.std.specs.List.{IsDistinct, list_all, list_any};
 ghost use Rattle.eleos_core.specs.Sweeps.{frames_in};

@@ -1,40 +1,43 @@
 // Events that leave the machine as it is.
-ghost use Rattle.std.specs.Prelude.{◌≡◌, ◌<◌, ℕ, length, take, None, IfOk, IfSome, IfNone};
-ghost use Rattle.eleos_base.specs.Plain.{zeros};
-ghost use Rattle.eleos_base.specs.Plans.{IsCaller, page_bytes};
-ghost use Rattle.eleos_core.specs.Applying.{Makes};
-ghost use Rattle.eleos_core.specs.Fills.{AreFit};
-ghost use Rattle.eleos_core.specs.Legal.{IsActor};
-ghost use Rattle.eleos_core.specs.Parts.{frame_in};
-ghost use Rattle.eleos_base.specs.Places.{all_pages};
-ghost use Rattle.eleos_core.specs.Quiet.{AllPass, IsSpoiledAt, IsStarving, IsSurveyed, IsWaiting};
-ghost use Rattle.eleos_core.specs.Quiet.{spoiled_stamp, starved_stamp, survey_stamp};
-ghost use Rattle.eleos_core.specs.Quiet.{wanted_page, wanted_part, wanted_places};
-ghost use Rattle.eleos_core.specs.Seals.{Seals, seals_by};
+ghost use Rattle.std.specs.Prelude.{◌≡◌, ◌<◌, [], ℕ, IfNone, IfSome, length, None, take};
 ghost use Rattle.eleos_core.specs.declared.event.Wanted.{Wanted};
+ghost use Rattle.eleos_core.specs.Words.{AllPass, AreBlocks, AreFit, IsActor, IsCaller};
+ghost use Rattle.eleos_core.specs.Words.{IsSpoiledAt, IsSurveyed, IsWaiting, Makes, Outcome, Seals};
+ghost use Rattle.eleos_core.specs.Words.{all_pages, frame_in, page_bytes, seals_by, spoiled_stamp};
+ghost use Rattle.eleos_core.specs.Words.{survey_stamp, wanted_page, wanted_part, wanted_places};
+ghost use Rattle.eleos_core.specs.Words.{zeros};
 
-use crate::accesses::spot_of;
-use crate::event::{Block, Goal, Wanted};
+use crate::accesses::only_reply;
 use crate::fills::{Spoiled, open_subs};
-use crate::machine::Core;
 use crate::sweeps::survey_reply;
 use crate::sweeps::waiting::address_of;
-use eleos_base::{List, Looked, NoMemory, PAGE_BYTES, Reply, SUB_BYTES, SUBS_PER_PAGE, Sealer};
+use crate::{ApplyRefused, Block, Core, Effect, Event, Goal, Wanted, spot_of};
+use eleos_base::{List, Looked, PAGE_BYTES, Part, Reply, Sealer};
 use std::alloc::Global;
 
 impl Core {
-    /// Refuses what waits for a frame, with what was seen of the frames that its page may take.
-    pub(crate) fn starved(&self, alloc: Global, sweep: &[Looked]) -> Result<Reply, NoMemory>
-        ensures { (x : Seals) (who : ℕ) (wanted : Wanted) → IsCaller self.now.plan who
-            → IsStarving self.now who wanted sweep.now → IfOk result (λ reply.
-            Makes x (starved_stamp who wanted sweep.now reply) self.now self.now) }
+    /// Refuses what waits for a frame, where all frames that its page may take were seen taken.
+    pub(crate) fn apply_starved(
+        &self,
+        alloc: Global,
+        who: u32,
+        wanted: &Wanted,
+        sweep: &[Looked],
+    ) -> Result<Effect, ApplyRefused>
+        requires { IsCaller self.now.plan who }
+        ensures { (x : Seals)
+            → Outcome x self.now who (Event.Starved wanted.now sweep.now) [] result self.now }
     {
+        if let Some(part) = self.starved_offence(who, wanted, sweep) {
+            return Err(ApplyRefused::Illegal { part });
+        }
         // Shows the proof the pages: one that is absent has no bytes.
         let _ = &self.pages;
-        let sweep = Vec::from_slice(alloc, sweep)?;
-        Ok(Reply::NoFrame {
-            sweep: List::of(sweep),
-        })
+        let Ok(seen) = Vec::from_slice(alloc, sweep) else {
+            return Err(ApplyRefused::NoMemory);
+        };
+        let sweep = List::of(seen);
+        Ok(only_reply(alloc, Reply::NoFrame { sweep }))
     }
 
     /// Refuses what waits where a block of its page does not pass: names the first such place, and
@@ -63,6 +66,33 @@ impl Core {
         open_subs(sealer, subs, page, &mut text, blocks)
     }
 
+    /// Refuses what waits, where a block of its page does not pass.
+    /// There is a block for each of the page's sealed sub-pages, in rising order of place.
+    pub(crate) fn apply_spoiled<S: Sealer>(
+        &self,
+        alloc: Global,
+        sealer: &S,
+        who: u32,
+        wanted: &Wanted,
+        blocks: &[Block],
+    ) -> Result<Effect, ApplyRefused>
+        requires caller { IsCaller self.now.plan who }
+        requires blocks { AreBlocks (wanted_places self.now wanted.now) blocks.now }
+        ensures { Outcome (seals_by (S.key sealer.now)) self.now who (Event.Spoiled wanted.now)
+            blocks.now result self.now }
+    {
+        if let Some(part) = self.waiting_offence(who, wanted) {
+            return Err(ApplyRefused::Illegal { part });
+        }
+        match self.spoiled(sealer, wanted, blocks) {
+            Some(spoiled) => {
+                let sub = spoiled.place;
+                Ok(only_reply(alloc, Reply::Tampered { sub }))
+            }
+            None => Err(ApplyRefused::Illegal { part: Part::Frame }),
+        }
+    }
+
     /// Ends a search among the frames of an enclave and the pool. Where no answer is legal there is
     /// none, which offends against the frames.
     pub(crate) fn survey(&self, enclave: u16, goal: Goal, sweep: &[Looked]) -> Option<Reply>
@@ -78,6 +108,24 @@ impl Core {
         }
         let pool = &self.clocks[self.plan.enclaves.len()].frames;
         survey_reply(own, pool, goal, sweep)
+    }
+
+    /// Ends a search among the frames of an enclave and the pool, where the sweep allows an answer.
+    pub(crate) fn apply_survey(
+        &self,
+        alloc: Global,
+        enclave: u16,
+        goal: Goal,
+        sweep: &[Looked],
+    ) -> Result<Effect, ApplyRefused>
+        requires { enclave < length self.now.plan.enclaves }
+        ensures { (x : Seals) (who : ℕ) → IsActor self.now.plan who
+            → Outcome x self.now who (Event.Survey enclave goal sweep.now) [] result self.now }
+    {
+        match self.survey(enclave, goal, sweep) {
+            Some(reply) => Ok(only_reply(alloc, reply)),
+            None => Err(ApplyRefused::Illegal { part: Part::Frame }),
+        }
     }
 }
 

@@ -2,9 +2,8 @@
 ghost use Rattle.std.specs.Prelude.{◌≡◌, ◌↔◌, ◌==◌, ◌||◌, ◌<◌, ◌^◌, IsTrue};
 ghost use Rattle.std.specs.Prelude.{Some, None, count_by, length};
 ghost use Rattle.std.specs.List.{list_all};
-ghost use Rattle.eleos_core.specs.Surveys.{IsTheReply};
-ghost use Rattle.eleos_core.specs.Sweeps.{IsEnough, IsShort, IsSwept, SurveyReply};
-ghost use Rattle.eleos_base.specs.Words.{is_busy, is_taken};
+ghost use Rattle.eleos_core.specs.Words.{IsEnough, IsShort, IsSwept, IsTheReply, SurveyReply};
+ghost use Rattle.eleos_core.specs.Words.{is_busy, is_taken};
 
 use crate::event::Goal;
 use crate::sweeps::is_all_taken;
@@ -48,17 +47,9 @@ fn share_reply(own: &[u32], pool: &[u32], wanted: u32, sweep: &[Looked]) -> Opti
         return reached(share, sweep);
     }
     if share > wanted {
-        return if is_all_taken(sweep, own) {
-            Some(Reply::Pinned { share })
-        } else {
-            None
-        };
+        return is_all_taken(sweep, own).then_some(Reply::Pinned { share });
     }
-    if is_short(pool, sweep) {
-        Some(Reply::Short { share })
-    } else {
-        None
-    }
+    is_short(pool, sweep).then_some(Reply::Short { share })
 }
 
 /// Just the frames of the list that were found free, no fewer than asked for.
@@ -100,11 +91,7 @@ fn reached(share: u32, sweep: &[Looked]) -> Option<Reply>
     ensures some { length sweep.now ≡ 0 → result ≡ Some (Reply.Reached share) }
     ensures none { 0 < length sweep.now → result ≡ None }
 {
-    if sweep.is_empty() {
-        Some(Reply::Reached { share })
-    } else {
-        None
-    }
+    sweep.is_empty().then_some(Reply::Reached { share })
 }
 
 /// How many were found free.

@@ -1,15 +1,10 @@
 // What waits for a frame.
 ghost use Rattle.std.specs.Prelude.{◌≡◌, ◌↔◌, None, IfSome, IsTrue, is_some};
-ghost use Rattle.eleos_base.specs.Plans.{IsCaller};
-ghost use Rattle.eleos_core.specs.Accesses.{page_for};
-ghost use Rattle.eleos_core.specs.Parts.{frame_in};
-ghost use Rattle.eleos_core.specs.Quiet.{IsStarving, IsWaiting, MayWait, waiting_fault};
-ghost use Rattle.eleos_core.specs.State.{address_of, call_address};
+ghost use Rattle.eleos_core.specs.Words.{IsCaller, IsStarving, IsWaiting, MayWait, address_of};
+ghost use Rattle.eleos_core.specs.Words.{call_address, frame_in, page_for, waiting_fault};
 
-use crate::accesses::spot_of;
-use crate::event::Wanted;
-use crate::machine::Core;
 use crate::sweeps::is_all_taken;
+use crate::{Core, Wanted, spot_of};
 use eleos_base::{Addr, Looked, Op, Part};
 
 impl Core {
@@ -23,11 +18,7 @@ impl Core {
         if self.is_present_at(address_of(wanted)) {
             return Some(Part::Present);
         }
-        if self.may_wait(who, wanted) {
-            None
-        } else {
-            Some(Part::Frame)
-        }
+        (!self.may_wait(who, wanted)).then_some(Part::Frame)
     }
 
     /// What the refusal for want of a frame offends against, where it is not legal.

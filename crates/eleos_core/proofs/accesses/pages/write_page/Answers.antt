@@ -1,9 +1,7 @@
-use Rattle.std.proofs.Common.{◌≡◌, ◌∷◌, [], map, Ok, Err, None, ◌<◌, true, false, length, is_some, refl, ap, subst, sym, ◌∙◌, arith}
-use Rattle.eleos_base.specs.Places.{sub_of}
+use Rattle.std.proofs.Common.{◌≡◌, ◌∷◌, [], map, Err, None, ◌<◌, true, length, is_some, refl, ap, sym, ◌∙◌, arith}
 use Rattle.eleos_core.specs.Accesses.{sub_for}
 use Rattle.eleos_core.specs.Applying.{put_of}
 use Rattle.eleos_core.specs.Cells.{part_of_page}
-use Rattle.eleos_core.specs.Parts.{is_worn_in}
 use Rattle.eleos_base.specs.Answers.{write_reply}
 use Rattle.eleos_core.specs.Seals.{Seals, seals_by}
 use Rattle.eleos_core.specs.Texts.{came_for}
