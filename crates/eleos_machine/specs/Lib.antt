@@ -3,6 +3,7 @@ pub mod Machines
 pub mod Notes
 pub mod Pointers
 pub mod Passes
+pub mod Kept
 pub mod Stamping
 pub mod Holding
 pub mod Sweeping

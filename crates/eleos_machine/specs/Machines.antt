@@ -1,6 +1,7 @@
 -- What contracts see of a machine: its turnstile.
 use Rattle.std.specs.Prelude.{◌≡◌, ℕ, ◌+◌, ◌^◌, List, [], length, slice_index_or}
 use Rattle.eleos_base.specs.declared.plan.Plan.{Plan}
+use Rattle.eleos_base.specs.declared.plot.Base.{Base}
 use Rattle.eleos_core.specs.Parts.{Part, no_part, part_at}
 use Rattle.eleos_base.specs.Places.{all_frames, all_pages}
 use Rattle.eleos_core.specs.Seals.{Seals, seals_by}
@@ -37,6 +38,10 @@ all_passes k = length k.callers + 2
 -- the stamps of each pass
 abbrev pub stamps_each : ℕ
 stamps_each = 2 ^ 40
+
+-- what is fixed of a turnstile on this ground, over cells of these parts, for so many passes
+abbrev pub base_over : {Q G : Type 0} → G → List Q → ℕ → Base Q G
+base_over fixed parts passes = record { grounds = fixed; opening = parts; hands = passes; each = stamps_each }
 
 -- the turnstile was made over all cells of its plan before the first event, for all passes
 pub record IsMachine (z : Site) : Type 0 where

@@ -4,7 +4,7 @@ ghost use Rattle.eleos_base.specs.declared.plan.Plan.{Plan as Plans};
 ghost use Rattle.eleos_plot.specs.Cells.{part_of_cell};
 ghost use Rattle.eleos_turn.specs.Hands.{dealt};
 ghost use Rattle.eleos_machine.specs.Judging.{CanBeMade};
-ghost use Rattle.eleos_machine.specs.Machines.{AreOpening, IsMachine, all_passes, stamps_each};
+ghost use Rattle.eleos_machine.specs.Machines.{AreOpening, IsMachine, all_passes, base_over};
 
 use eleos_base::{NoMemory, Plan, Plot, Sealer};
 use eleos_plot::{Cell, CorePlot};
@@ -51,12 +51,8 @@ fn open_with<P: Grounded, S: Sealer>(
 ) -> Result<(Turnstile<P>, Vec<Hand<P>>), NoMemory>
     requires count { (0 < count) × (count ≤ 16) }
     requires few { length cells.items < 2 ^ 31 }
-    ensures base { IfOk result (λ r. r.0.base ≡ record {
-      grounds = P.grounds plan.now (S.key sealer.now);
-      opening = map P.terms.part cells.items;
-      hands = count;
-      each = stamps_each;
-    }) }
+    ensures base { IfOk result (λ r. r.0.base ≡ base_over
+        (P.grounds plan.now (S.key sealer.now)) (map P.terms.part cells.items) count) }
     ensures hands { IfOk result (λ r. r.1.items ≡ dealt r.0 0 count) }
 {
     open_on::<P, S>(alloc, cells, plan, sealer, count)
@@ -73,12 +69,8 @@ fn open_on<P: Plot, S: Sealer>(
     ghost grounds: { P.Ground }
     requires count { (0 < count) × (count ≤ 16) }
     requires few { length cells.items < 2 ^ 31 }
-    ensures base { IfOk result (λ r. r.0.base ≡ record {
-      grounds = grounds;
-      opening = map P.terms.part cells.items;
-      hands = count;
-      each = stamps_each;
-    }) }
+    ensures base { IfOk result (λ r. r.0.base ≡ base_over
+        grounds (map P.terms.part cells.items) count) }
     ensures hands { IfOk result (λ r. r.1.items ≡ dealt r.0 0 count) }
 {
     Turnstile::<P>::make(alloc, cells, count, STAMPS)

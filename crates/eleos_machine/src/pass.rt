@@ -59,24 +59,14 @@ impl Local {
 }
 
 impl Model for Pass {
-    ghost use Rattle.std.specs.Prelude.{vec_capacity, ◌≡◌, ◌≤◌, []};
-    ghost use Rattle.eleos_plot.specs.Terms.{core_terms};
-    ghost use Rattle.eleos_turn.specs.Hands.{entries};
-    ghost use Rattle.eleos_machine.specs.Machines.{IsMachine, all_passes, plan_at};
-    ghost use Rattle.eleos_machine.specs.Passes.{PassState, last_stamp};
+    ghost use Rattle.eleos_machine.specs.Kept.{IsKept, pass_with};
+    ghost use Rattle.eleos_machine.specs.Passes.{PassState};
 
     ghost Value = { PassState };
 
-    ghost view = { λ p. record {
-      hand = p.hand;
-      draft = p.local.draft;
-      sweep = p.local.notes;
-      pointers = p.local.pointers;
-    } };
+    ghost view = { λ p. pass_with p.hand p.local };
 
-    ghost invariant = { λ p. IsMachine p.hand.home
-        × (p.local.last ≡ last_stamp (entries core_terms p.hand)) × (p.local.room.items ≡ [])
-        × (all_passes (plan_at p.hand.home) ≤ vec_capacity p.local.room) };
+    ghost invariant = { λ p. IsKept p.hand p.local };
 }
 
 /// A pass that has no turn, in a form that can lie in a cell of another turnstile.
@@ -87,24 +77,14 @@ pub struct RestPass {
 }
 
 impl Model for RestPass {
-    ghost use Rattle.std.specs.Prelude.{vec_capacity, ◌≡◌, ◌≤◌, []};
-    ghost use Rattle.eleos_plot.specs.Terms.{core_terms};
-    ghost use Rattle.eleos_turn.specs.Hands.{entries};
-    ghost use Rattle.eleos_machine.specs.Machines.{IsMachine, all_passes, plan_at};
-    ghost use Rattle.eleos_machine.specs.Passes.{PassState, last_stamp};
+    ghost use Rattle.eleos_machine.specs.Kept.{IsKept, pass_with};
+    ghost use Rattle.eleos_machine.specs.Passes.{PassState};
 
     ghost Value = { PassState };
 
-    ghost view = { λ p. record {
-      hand = p.hand;
-      draft = p.local.draft;
-      sweep = p.local.notes;
-      pointers = p.local.pointers;
-    } };
+    ghost view = { λ p. pass_with p.hand p.local };
 
-    ghost invariant = { λ p. IsMachine p.hand.home
-        × (p.local.last ≡ last_stamp (entries core_terms p.hand)) × (p.local.room.items ≡ [])
-        × (all_passes (plan_at p.hand.home) ≤ vec_capacity p.local.room) };
+    ghost invariant = { λ p. IsKept p.hand p.local };
 }
 
 impl Pass {

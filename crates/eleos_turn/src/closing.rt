@@ -191,10 +191,6 @@ fn noted_hand<P: Plot>(cells: &CellTable<P>, seat: &mut Place<P>) -> Hand<P>
         left: 0,
         turns: 0,
         links: 0,
-        refused: Refused {
-            count: 0,
-            cell: 0,
-            word: 0,
-        },
+        refused: Refused::none(),
     }
 }

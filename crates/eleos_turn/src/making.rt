@@ -88,11 +88,7 @@ fn deal<P: Plot>(
             left: stamps,
             turns: 0,
             links: 0,
-            refused: Refused {
-                count: 0,
-                cell: 0,
-                word: 0,
-            },
+            refused: Refused::none(),
         };
         let Ok(()) = dealt.push(hand) else {
             return Err(NoMemory);

@@ -210,11 +210,7 @@ impl<P: Plot> Turnstile<P> {
             left: 0,
             turns: 0,
             links: 0,
-            refused: Refused {
-                count: 0,
-                cell: 0,
-                word: 0,
-            },
+            refused: Refused::none(),
         }
     }
 
