@@ -1,0 +1,6 @@
+mod Counting
+mod Unlinking
+mod Changing
+mod Places
+pub mod Accessing
+mod Stepping

@@ -1,0 +1,4 @@
+pub mod Ranges
+pub mod Unlinked
+pub mod Changes
+pub mod Accessed
