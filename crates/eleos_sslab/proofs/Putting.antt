@@ -1,5 +1,6 @@
 -- What a put says by its branches.
 use Rattle.std.proofs.Common.{◌≡◌, ◌≢◌, ◌↔◌, inr, ℕ, ◌<◌, ◌≤◌, List, length, Option, Some, Result, Ok, Err, refl, sym, ap, ◌∙◌, subst, arith}
+use Rattle.eleos_base.specs.Own.{Private}
 use Rattle.eleos_base.specs.SubMemory.{MemoryState, owned}
 use Rattle.eleos_sslab.specs.declared.block.SlabBlock.{SlabBlock}
 use Rattle.eleos_sslab.specs.declared.slab.ObjId.{ObjId}
@@ -8,7 +9,7 @@ use Rattle.eleos_sslab.specs.declared.slab.SlabRefused.TheVariants.{BadSize, Ful
 use Rattle.eleos_sslab.specs.declared.size.SlotSize.{SlotSize}
 use Rattle.eleos_sslab.specs.Sizes.{size_for, slot_bytes}
 use Rattle.eleos_sslab.specs.Blocks.{HasObject}
-use Rattle.eleos_sslab.specs.Slabs.{HasNoFree, IsFirstFree, IsFull, IsFullFor, IsHeld, IsInSlot, KeepsOthers, block_at, len_of}
+use Rattle.eleos_sslab.specs.Slabs.{HasNoFree, IsFirstFree, IsFull, IsFullFor, IsHeld, IsInSlot, KeepsOthers, address_of, block_at, len_of}
 use Rattle.eleos_sslab.specs.Calls.{HasReplaced, HasStored, NewCalls, PutCalls}
 use Rattle.eleos_sslab.proofs.SlotSizes.{count_some, fits_in}
 
@@ -60,6 +61,7 @@ pub replaced_here : {O : Type 0} (m m' : MemoryState O) (blocks blocks' : List S
 replaced_here m m' blocks blocks' bytes id h = record {
   len = h.len;
   text = h.text;
+  fresh = λ ne. absurd (ne refl);
   gone = λ ne. absurd (ne refl);
   many = h.others.many;
   lens = λ o ne _. h.others.lens o ne;
@@ -73,6 +75,7 @@ pub replaced_there : {O : Type 0} (m m₁ m' : MemoryState O) (blocks stored blo
 replaced_there m m₁ m' blocks stored blocks' bytes id new held free h gone others = record {
   len = others.lens new differ ∙ h.len;
   text = others.objects new differ ∙ h.text;
+  fresh = λ ne. free;
   gone = λ ne. gone;
   many = others.many ∙ h.others.many;
   lens = λ o ne d. others.lens o ne ∙ h.others.lens o d;
@@ -82,6 +85,12 @@ replaced_there m m₁ m' blocks stored blocks' bytes id new held free h gone oth
   where
     differ : new ≢ id
     differ e = let x : len_of blocks id ≡ 0 = sym (ap (len_of blocks) e) ∙ free in absurd (omega (arith, x, held))
+
+-- and lies where it was stored
+pub moved_at : (p p' : Private) (blocks stored blocks' : List SlabBlock) (bytes : List ℕ) (id new : ObjId) → IsHeld blocks id → len_of blocks new ≡ 0 → 1 ≤ length bytes → len_of stored new ≡ length bytes → KeepsOthers p stored id p' blocks' → address_of blocks' new ≡ address_of stored new
+moved_at p p' blocks stored blocks' bytes id new held free some long others = others.places new
+    (λ e. let x : len_of blocks id ≡ 0 = sym (ap (len_of blocks) e) ∙ free in absurd (omega (arith, x, held)))
+    (subst (λ (z : ℕ). 1 ≤ z) (sym long) some)
 
 -- the old object is there still once the new one is stored
 pub held_still : {O : Type 0} (m m₁ : MemoryState O) (blocks stored : List SlabBlock) (bytes : List ℕ) (id new : ObjId) → IsHeld blocks id → len_of blocks new ≡ 0 → HasStored m blocks bytes new m₁ stored → IsHeld stored id

@@ -45,14 +45,14 @@ module _ {O : Type 0} (m m' : MemoryState O) where
       (λ (freed : (HasObject (block_at blocks place) → ⊥) × HasMade m (free_of (block_at blocks place).at ∷ []) m'). spent _ 1 (omega arith) freed.1) h
 
   -- and one that was written where it lies
-  pub here_spent : (blocks : List SlabBlock) (bytes : List ℕ) (id : ObjId) (r : Result ObjId SlabRefused) → WritesHere m blocks bytes id r m' → Costs m 3 m'
-  here_spent blocks bytes id (Ok new) h = spent _ 3 (omega arith) h.1
-  here_spent blocks bytes id (Err (Access why)) h = spent _ 3 (omega arith) h.1
-  here_spent blocks bytes id (Err BadSize) h = absurd h
-  here_spent blocks bytes id (Err Full) h = absurd h
-  here_spent blocks bytes id (Err NoSpace) h = absurd h
+  pub here_spent : (blocks blocks' : List SlabBlock) (bytes : List ℕ) (id : ObjId) (r : Result ObjId SlabRefused) → WritesHere m blocks bytes id r m' blocks' → Costs m 3 m'
+  here_spent blocks blocks' bytes id (Ok new) h = spent _ 3 (omega arith) h.2
+  here_spent blocks blocks' bytes id (Err (Access why)) h = spent _ 3 (omega arith) h.1
+  here_spent blocks blocks' bytes id (Err BadSize) h = absurd h
+  here_spent blocks blocks' bytes id (Err Full) h = absurd h
+  here_spent blocks blocks' bytes id (Err NoSpace) h = absurd h
 
 -- one that went to another slot cost three at most
 pub moves_spent : {O : Type 0} (m m' : MemoryState O) (blocks blocks' : List SlabBlock) (bytes : List ℕ) (id : ObjId) (r : Result ObjId SlabRefused) → Moves m blocks bytes id r m' blocks' → Costs m 3 m'
-moves_spent m m' blocks blocks' bytes id (Ok new) h = let stored = stored_spent m h.0 blocks h.1 bytes new h.2 in let taken = take_spent h.0 m' blocks' id.block h.3 in record { origin = taken.origin ∙ stored.origin; left = (let a = stored.left in let b = taken.left in omega (arith, a, b)) }
+moves_spent m m' blocks blocks' bytes id (Ok new) h = let stored = stored_spent m h.0 blocks h.1 bytes new h.2 in let taken = take_spent h.0 m' blocks' id.block h.4 in record { origin = taken.origin ∙ stored.origin; left = (let a = stored.left in let b = taken.left in omega (arith, a, b)) }
 moves_spent m m' blocks blocks' bytes id (Err why) h = put_spent m m' blocks blocks' bytes (Err why) h

@@ -92,21 +92,22 @@ module _ {O : Type 0} where
   pub record HasReplaced (m : MemoryState O) (blocks : List SlabBlock) (bytes : List ℕ) (id new : ObjId) (m' : MemoryState O) (blocks' : List SlabBlock) : Type 0 where
     pub len : len_of blocks' new ≡ length bytes
     pub text : object (owned m') blocks' new ≡ bytes
+    pub fresh : new ≢ id → len_of blocks new ≡ 0
     pub gone : new ≢ id → len_of blocks' id ≡ 0
     pub many : length blocks' ≡ length blocks
     pub lens : (other : ObjId) → other ≢ id → other ≢ new → len_of blocks' other ≡ len_of blocks other
     pub places : (other : ObjId) → other ≢ id → other ≢ new → IsHeld blocks other → address_of blocks' other ≡ address_of blocks other
     pub objects : (other : ObjId) → other ≢ id → other ≢ new → object (owned m') blocks' other ≡ object (owned m) blocks other
 
-  -- the object was written where it lies
-  abbrev pub WritesHere : MemoryState O → List SlabBlock → List ℕ → ObjId → Result ObjId SlabRefused → MemoryState O → Type 0
-  WritesHere m blocks bytes id (Ok new) m' = (new ≡ id) × HasMade m (write_of (address_of blocks id) bytes replies.Done ∷ []) m'
-  WritesHere m blocks bytes id (Err (Access why)) m' = IsWriteFault why × HasMade m (write_of (address_of blocks id) bytes (access_refusal_reply why) ∷ []) m'
-  WritesHere m blocks bytes id (Err BadSize) m' = ⊥
-  WritesHere m blocks bytes id (Err Full) m' = ⊥
-  WritesHere m blocks bytes id (Err NoSpace) m' = ⊥
+  -- the object was written where it lies, and lies there still
+  abbrev pub WritesHere : MemoryState O → List SlabBlock → List ℕ → ObjId → Result ObjId SlabRefused → MemoryState O → List SlabBlock → Type 0
+  WritesHere m blocks bytes id (Ok new) m' blocks' = (new ≡ id) × (address_of blocks' new ≡ address_of blocks id) × HasMade m (write_of (address_of blocks id) bytes replies.Done ∷ []) m'
+  WritesHere m blocks bytes id (Err (Access why)) m' blocks' = IsWriteFault why × HasMade m (write_of (address_of blocks id) bytes (access_refusal_reply why) ∷ []) m'
+  WritesHere m blocks bytes id (Err BadSize) m' blocks' = ⊥
+  WritesHere m blocks bytes id (Err Full) m' blocks' = ⊥
+  WritesHere m blocks bytes id (Err NoSpace) m' blocks' = ⊥
 
   -- a new object was put, and where it was stored the old one was taken
   abbrev pub Moves : MemoryState O → List SlabBlock → List ℕ → ObjId → Result ObjId SlabRefused → MemoryState O → List SlabBlock → Type 0
-  Moves m blocks bytes id (Ok new) m' blocks' = (between : MemoryState O) × (stored : List SlabBlock) × PutCalls m blocks bytes (Ok new) between stored × FreesEmpty between blocks' id.block m'
+  Moves m blocks bytes id (Ok new) m' blocks' = (between : MemoryState O) × (stored : List SlabBlock) × PutCalls m blocks bytes (Ok new) between stored × (address_of blocks' new ≡ address_of stored new) × FreesEmpty between blocks' id.block m'
   Moves m blocks bytes id (Err why) m' blocks' = PutCalls m blocks bytes (Err why) m' blocks'

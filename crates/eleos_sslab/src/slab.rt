@@ -84,7 +84,7 @@ impl SSlab {
     }
 
     /// The length of an object, 0 where the id has none.
-    fn len_of(&self, id: ObjId) -> u16
+    pub fn len_of(&self, id: ObjId) -> u16
         ensures { result ≡ len_of self.now id }
     {
         if id.block < self.blocks.len() {
@@ -361,7 +361,7 @@ impl SSlab {
         requires size { size_for (length bytes.now) ≡ Some (block_at self.old id.block).size }
         requires left { 1 ≤ (M.state mem.old).left }
         ensures calls { WritesHere (M.state mem.old) self.old bytes.now id result
-            (M.state mem.new) }
+            (M.state mem.new) self.new }
         ensures ok { IfOk result (λ new. HasReplaced (M.state mem.old) self.old bytes.now id new
             (M.state mem.new) self.new) }
         ensures err { OnErr result (self.new ≡ self.old) }
@@ -419,7 +419,8 @@ impl SSlab {
         requires held { IsHeld self.old id }
         requires left { 3 ≤ (M.state mem.old).left }
         ensures here { size_for (length bytes.now) ≡ Some (block_at self.old id.block).size
-            → WritesHere (M.state mem.old) self.old bytes.now id result (M.state mem.new) }
+            → WritesHere (M.state mem.old) self.old bytes.now id result (M.state mem.new)
+            self.new }
         ensures moves { size_for (length bytes.now) ≢ Some (block_at self.old id.block).size
             → Moves (M.state mem.old) self.old bytes.now id result (M.state mem.new) self.new }
         ensures costs { Costs (M.state mem.old) 3 (M.state mem.new) }
