@@ -1,0 +1,4 @@
+pub mod Maps
+pub mod Keys
+pub mod Shards
+pub mod Steps
