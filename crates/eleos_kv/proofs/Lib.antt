@@ -1,0 +1,9 @@
+pub mod Kept
+pub mod Turns
+pub mod Answering
+pub mod OneRun
+pub mod Closing
+pub mod Untied
+pub mod Backs
+pub mod Opening
+pub mod Private
