@@ -1,0 +1,4 @@
+pub mod MapTexts
+pub mod Giving
+pub mod Placing
+pub mod Opening
