@@ -86,6 +86,7 @@ good_plan header has =
 good_trace : (header : Header) (before : List KvCommand) → HasKey header → AreCommands header.clients before → IsSession (trace_with header before)
 good_trace header before has are = record {
   good = good_plan header has;
+  no_blocks = refl;
   key = has.1;
   some_shard = has.0.0.0.1.some;
   shards = has.0.0.0.1.within;

@@ -1,5 +1,5 @@
 -- What every session keeps to.
-use Rattle.std.specs.Prelude.{◌≡◌, ℕ, ◌≤◌, List, length, All, IsTrue}
+use Rattle.std.specs.Prelude.{◌≡◌, ℕ, ◌≤◌, List, [], length, All, IsTrue}
 use Rattle.eleos_base.specs.AesKey.{IsKeyLength}
 use Rattle.eleos_base.specs.Plans.{IsGood}
 use Rattle.eleos_kvwire.specs.Commands.{is_key}
@@ -27,9 +27,10 @@ pub record IsCommand (clients : ℕ) (command : KvCommand) : Type 0 where
   pub key : IsTrue (is_key (key_of command.act))
   pub value : IsSized command.act
 
--- a good machine with a caller for each of 1 to 8 shards, a key of a good length, 1 to 8 clients, and at most 100,000 commands of theirs
+-- a good machine without header blocks and with a caller for each of 1 to 8 shards, a key of a good length, 1 to 8 clients, and at most 100,000 commands of theirs
 pub record IsSession (trace : KvTrace) : Type 0 where
   pub good : IsGood trace.plan
+  pub no_blocks : trace.plan.blocks ≡ []
   pub key : IsKeyLength (length trace.key)
   pub some_shard : 1 ≤ trace.shards
   pub shards : trace.shards ≤ 8
