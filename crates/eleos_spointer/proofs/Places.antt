@@ -1,5 +1,7 @@
 -- Where a pointer stands: within its enclave, on a page of the machine.
-use Rattle.std.proofs.Common.{◌≡◌, ℕ, ◌+◌, ◌*◌, ◌<◌, ◌≤◌, List, length, true, slice_index, sym, ◌∙◌, ap, subst, arith}
+use Rattle.std.proofs.Common.{◌≡◌, ℕ, ◌+◌, ◌*◌, ◌%◌, ◌<◌, ◌≤◌, ◌==◌, ◌&&◌, List, length, true, nat_le, slice_index, sym, ◌∙◌, ap, subst, arith}
+use Rattle.std.proofs.lemmas.Bool.{eq-eqb}
+use Rattle.std.proofs.lemmas.Bool.Decides.{nat_tests}
 use Rattle.std.proofs.lemmas.List.{length-map}
 use Rattle.std.proofs.lemmas.List.Sums.{sum_by_more_le}
 use Rattle.eleos_base.specs.declared.plan.EnclavePlan.{EnclavePlan}
@@ -41,6 +43,15 @@ in_range k who pointer is = record {
   in_one = omega arith;
   in_all = within_subs k (enclave_of k who) pointer is;
 }
+
+-- as the test says
+pub byte_in_range : (k : Plan) (who : ℕ) (pointer : Pointer) → IsPointer k (enclave_of k who) pointer → is_in_range (sub_bytes k (enclave_of k who)) (enclave_of k who) (subs k (enclave_of k who)) (place_of pointer) 1 ≡ true
+byte_in_range k who pointer is =
+    let home : (pointer.block.enclave == enclave_of k who) ≡ true = eq-eqb pointer.block.enclave (enclave_of k who) is.range.home in
+    let one : nat_le ((pointer.block.at + pointer.at) % 1024 + 1) 1024 ≡ true = grind (arith, nat_tests) in
+    let within = within_subs k (enclave_of k who) pointer is in
+    let all : nat_le (pointer.block.at + pointer.at + 1) (1024 * subs k (enclave_of k who)) ≡ true = grind (arith, nat_tests, within) in
+    λ i. home i && true && one i && all i
 
 -- its page is one of the machine's
 pub page_within : (k : Plan) (who : ℕ) (pointer : Pointer) → IsGood k → IsCaller k who → IsPointer k (enclave_of k who) pointer → page_under k pointer < all_pages k

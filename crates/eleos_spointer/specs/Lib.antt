@@ -2,3 +2,9 @@ pub mod Ranges
 pub mod Unlinked
 pub mod Changes
 pub mod Accessed
+pub mod Refused
+pub mod Reached
+pub mod Brought
+pub mod Judged
+pub mod Tied
+pub mod Linked
