@@ -1,11 +1,12 @@
 -- What the lines of one actor tell.
 use Rattle.std.specs.Prelude.{ℕ, List, [], ◌∷◌, ◌++◌, Option, Some, None}
+use Rattle.eleos_base.specs.declared.memory.Looked.{Looked}
 use Rattle.eleos_base.specs.declared.memory.Reply.{Reply}
-use Rattle.eleos_base.specs.declared.memory.Reply.TheVariants.{Done}
+use Rattle.eleos_base.specs.declared.memory.Reply.TheVariants.{Done, Enough, Swept, Reached, Pinned, Short}
 use Rattle.eleos_core.specs.Parts.{Made}
 use Rattle.eleos_core.specs.declared.event.Entry.{Entry}
 use Rattle.eleos_core.specs.declared.event.Event.{Event}
-use Rattle.eleos_core.specs.declared.event.Event.TheVariants.{Evict}
+use Rattle.eleos_core.specs.declared.event.Event.TheVariants.{Evict, Survey}
 use Rattle.eleos_report.specs.declared.answer.Answer.{Answer}
 use Rattle.eleos_report.specs.declared.answer.Answer.TheVariants as answers
 use Rattle.eleos_report.specs.declared.line.LogLine.{LogLine}
@@ -28,9 +29,19 @@ pub record Told : Type 0 where
 abbrev pub told_as : Word → Came → Told
 told_as word came = record { word = word; came = came }
 
--- an entry as it is printed: an evict tells how many blocks were put
+-- the end of a round or of a change of a share, as it is printed with the words that were noted
+abbrev pub survey_answer : Reply → List Looked → Answer
+survey_answer (Enough free) sweep = answers.Enough free sweep
+survey_answer (Swept free) sweep = answers.Swept free sweep
+survey_answer (Reached share) sweep = answers.Reached share
+survey_answer (Pinned share) sweep = answers.Pinned share sweep
+survey_answer (Short share) sweep = answers.Short share sweep
+survey_answer reply sweep = answer_of reply []
+
+-- an entry as it is printed: an evict tells how many blocks were put, and a survey what was noted
 abbrev pub event_answer : Event → Reply → List (List ℕ) → ℕ → Answer
 event_answer (Evict page frame) Done blocks puts = answers.Put puts
+event_answer (Survey enclave goal sweep) reply blocks puts = survey_answer reply sweep
 event_answer event reply blocks puts = answer_of reply blocks
 
 -- what is printed of an entry of the history for which so many blocks were put

@@ -21,13 +21,13 @@ use Rattle.eleos_trace.specs.declared.word.CallWord.{CallWord}
 use Rattle.eleos_trace.specs.declared.word.CallWord.TheVariants as calls
 use Rattle.eleos_trace.specs.declared.word.CallWord.TheVariants.{Echo, Get, Cut, Clock}
 use Rattle.eleos_trace.specs.declared.word.Word.{Word}
-use Rattle.eleos_trace.specs.declared.word.Word.TheVariants.{Alloc, Free, Share, Read, Write, Tie, Untie, Fill, Evict, Move, Flip, SwapPlaces, Keep, Restore, Call}
+use Rattle.eleos_trace.specs.declared.word.Word.TheVariants.{Alloc, Free, Share, Read, Write, Tie, Untie, Fill, Evict, Move, Flip, SwapPlaces, Keep, Restore, SwapRound, SetShare, Call}
 use Rattle.eleos_texts.specs.Fields.{is_blank, is_newline, is_name, is_name_char}
 use Rattle.eleos_texts.specs.Texts.{hex_text}
 use Rattle.eleos_trace.specs.Calls.{call_text}
 use Rattle.eleos_trace.specs.Spelling.{fields, actor_text, owner_text}
 use Rattle.eleos_report.specs.declared.answer.Answer.{Answer}
-use Rattle.eleos_report.specs.declared.answer.Answer.TheVariants.{At, Okay, Got, Put, BadSize, NoSpace, NotABlock, NotYours, BadRange, Unallocated, Worn, Tampered, NoFrame, Illegal, Replied, WrongId, TooLong, BadStatus, Nothing, Skipped}
+use Rattle.eleos_report.specs.declared.answer.Answer.TheVariants.{At, Okay, Got, Put, BadSize, NoSpace, NotABlock, NotYours, BadRange, Unallocated, Worn, Tampered, NoFrame, Enough, Swept, Reached, Short, Pinned, Illegal, Replied, WrongId, TooLong, BadStatus, Nothing, Skipped}
 use Rattle.eleos_base.specs.declared.memory.Part.{Part}
 use Rattle.eleos_base.specs.declared.memory.Part.TheVariants.{Present, Frame, Absent, Linked, Owner, Untied}
 use Rattle.eleos_report.specs.Log.{looked_text, part_text, block_fields, answer_fields, stamp_text}
@@ -170,6 +170,8 @@ plain_fields (Flip place bit) has = (refl, (plain_short place has.0, (plain_shor
 plain_fields (SwapPlaces a b) has = (refl, (plain_short a has.0, (plain_short b has.1, tt)))
 plain_fields (Keep place) has = (refl, (plain_short place has, tt))
 plain_fields (Restore place) has = (refl, (plain_short place has, tt))
+plain_fields (SwapRound enclave low) has = (refl, (plain_short enclave has.0, (plain_short low has.1, tt)))
+plain_fields (SetShare enclave to) has = (refl, (plain_short enclave has.0, (plain_short to has.1, tt)))
 plain_fields (Call call bytes room) has = (refl, (plain_call call, (plain_hex bytes has.0, (plain_short room has.1, tt))))
 
 plain_block : (block : Option (List ℕ)) → IfSome block IsBlock → ArePlain (block_fields block)
@@ -195,6 +197,11 @@ plain_answer Unallocated has = (refl, tt)
 plain_answer (Worn sub) has = (refl, (plain_short sub has, tt))
 plain_answer (Tampered sub block) has = (refl, (plain_short sub has.0, plain_block block has.1))
 plain_answer (NoFrame sweep) has = (refl, plain_sweep sweep has)
+plain_answer (Enough free sweep) has = (refl, (plain_short free has.0, plain_sweep sweep has.1))
+plain_answer (Swept free sweep) has = (refl, (plain_short free has.0, plain_sweep sweep has.1))
+plain_answer (Reached share) has = (refl, (plain_short share has, tt))
+plain_answer (Short share sweep) has = (refl, (plain_short share has.0, plain_sweep sweep has.1))
+plain_answer (Pinned share sweep) has = (refl, (plain_short share has.0, plain_sweep sweep has.1))
 plain_answer (Illegal part) has = (refl, (plain_part part, tt))
 plain_answer (Replied status bytes) has = (refl, (plain_decimal status has.0, (plain_hex bytes has.1, tt)))
 plain_answer (WrongId seen) has = (refl, (plain_decimal seen has, tt))

@@ -8,7 +8,7 @@ use Rattle.eleos_base.specs.declared.memory.Part.TheVariants.{Present, Frame, Ab
 use Rattle.eleos_texts.specs.Reasons.{one, two, one_and_more}
 use Rattle.eleos_trace.specs.declared.trace.Kind.{Kind}
 use Rattle.eleos_report.specs.declared.answer.Answer.{Answer}
-use Rattle.eleos_report.specs.declared.answer.Answer.TheVariants.{At, Okay, Got, Put, BadSize, NoSpace, NotABlock, NotYours, BadRange, Unallocated, Worn, Tampered, NoFrame, Illegal, Replied, WrongId, TooLong, BadStatus, Nothing, Skipped}
+use Rattle.eleos_report.specs.declared.answer.Answer.TheVariants.{At, Okay, Got, Put, BadSize, NoSpace, NotABlock, NotYours, BadRange, Unallocated, Worn, Tampered, NoFrame, Enough, Swept, Reached, Short, Pinned, Illegal, Replied, WrongId, TooLong, BadStatus, Nothing, Skipped}
 use Rattle.eleos_report.specs.Answers.{is_reply, part_of, sweep_of, told_block_of, answer_in}
 use Rattle.eleos_report.specs.Grammar.{HasParts, IsLooked, IsBlock}
 use Rattle.eleos_report.specs.Log.{looked_text, part_text, block_fields, answer_fields}
@@ -48,6 +48,11 @@ answer_again kind Unallocated is has = rw is refl
 answer_again kind (Worn sub) is has = rw (number_alone-again sub has, is) refl
 answer_again kind (Tampered sub block) is has = rw (short_again sub has.0, block_fields-again block has.1, is) refl
 answer_again kind (NoFrame sweep) is has = rw (sweep_again sweep has, is) refl
+answer_again kind (Enough free sweep) is has = rw (short_again free has.0, sweep_again sweep has.1, is) refl
+answer_again kind (Swept free sweep) is has = rw (short_again free has.0, sweep_again sweep has.1, is) refl
+answer_again kind (Reached share) is has = rw (number_alone-again share has, is) refl
+answer_again kind (Short share sweep) is has = rw (short_again share has.0, sweep_again sweep has.1, is) refl
+answer_again kind (Pinned share sweep) is has = rw (short_again share has.0, sweep_again sweep has.1, is) refl
 answer_again kind (Illegal part) is has = rw (part_again part, is) refl
 answer_again kind (Replied status bytes) is has = rw (long_again status has.0, bytes_again bytes has.1, is) refl
 answer_again kind (WrongId seen) is has = rw (long_again seen has, is) refl

@@ -72,7 +72,7 @@ said_again kind stamp actor command reply is =
       stamp_again stamp is.stamp_fits,
       who_again actor is.actor_is,
       parted-again (answer_fields reply) (fields command) (plain_fields command is.command_has),
-      command_again kind command is.command_is is.command_has,
+      command_again kind actor command is.command_is is.command_has,
       answer_again kind reply is.reply_is is.reply_has,
     ) refl
 

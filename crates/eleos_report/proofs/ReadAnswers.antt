@@ -8,10 +8,10 @@ use Rattle.eleos_texts.specs.Fields.{is, most_u32}
 use Rattle.eleos_texts.specs.Reasons.{one, two, one_and_more, with_one, with_one_and_more}
 use Rattle.eleos_trace.specs.declared.trace.Kind.{Kind}
 use Rattle.eleos_report.specs.declared.answer.Answer.{Answer}
-use Rattle.eleos_report.specs.declared.answer.Answer.TheVariants.{At, Okay, Got, Put, BadSize, NoSpace, NotABlock, NotYours, BadRange, Unallocated, Worn, NoFrame, Illegal, Replied, WrongId, TooLong, BadStatus, Nothing, Skipped}
+use Rattle.eleos_report.specs.declared.answer.Answer.TheVariants.{At, Okay, Got, Put, BadSize, NoSpace, NotABlock, NotYours, BadRange, Unallocated, Worn, NoFrame, Enough, Swept, Reached, Short, Pinned, Illegal, Replied, WrongId, TooLong, BadStatus, Nothing, Skipped}
 use Rattle.eleos_report.specs.Fields.{most_u64, number_of, bytes_of, block_of, looked_of}
 use Rattle.eleos_report.specs.Commands.{number_alone}
-use Rattle.eleos_report.specs.Answers.{is_reply, part_of, sweep_of, told_block_of, tampered_of, plain_of, long_alone, replied_of, call_answer_of, other_answer_of, answer_of, answer_in}
+use Rattle.eleos_report.specs.Answers.{is_reply, part_of, sweep_of, told_block_of, tampered_of, plain_of, long_alone, replied_of, call_answer_of, counted_of, survey_answer_of, other_answer_of, answer_of, answer_in}
 use Rattle.eleos_report.specs.Grammar.{IsShort, IsLong, HasParts, IsLooked, IsBlock}
 use Rattle.hex.specs.Hex.{IsBytes}
 use Rattle.eleos_report.proofs.ReadFields.{step, any_step, tested, either, short_is, long_is, bytes_are, block_is, looked_is}
@@ -24,6 +24,15 @@ sweep_is : (words : List (List ℕ)) → IfOk (sweep_of words) AreLooked
 sweep_is [] = tt
 sweep_is (word ∷ words) = step IsLooked AreLooked (looked_of word) _ (looked_is word) (λ looked is.
     step AreLooked AreLooked (sweep_of words) _ (sweep_is words) (λ sweep are. (is, are)))
+
+-- a number, and frames with their words
+abbrev IsCounted : ℕ × List Looked → Type 0
+IsCounted x = IsShort x.0 × AreLooked x.1
+
+counted_is : (args : List (List ℕ)) → IfOk (counted_of args) IsCounted
+counted_is args = any_step IsCounted (one_and_more args) _ (λ x.
+    step IsShort IsCounted (number_of most_u32 x.0) _ (short_is x.0) (λ n fits.
+    step AreLooked IsCounted (sweep_of x.1) _ (sweep_is x.1) (λ sweep are. (fits, are))))
 
 abbrev IsTold : Option (List ℕ) → Type 0
 IsTold block = IfSome block IsBlock
@@ -64,13 +73,22 @@ module _ (word : List ℕ) (args : List (List ℕ)) where
       (either HasParts (is (codes "toolong") word) _ _ (step IsLong HasParts (long_alone args) (λ seen. Ok (TooLong seen)) (long_alone_is args) (λ seen fits. fits))
       (either HasParts (is (codes "badstatus") word) _ (Err Form) (step IsLong HasParts (long_alone args) (λ seen. Ok (BadStatus seen)) (long_alone_is args) (λ seen fits. fits)) tt)))
 
+  survey_answer_is : IfOk (survey_answer_of word args) HasParts
+  survey_answer_is =
+      either HasParts (is (codes "enough") word) _ _ (step IsCounted HasParts (counted_of args) (λ x. Ok (Enough x.0 x.1)) (counted_is args) (λ x are. are))
+      (either HasParts (is (codes "swept") word) _ _ (step IsCounted HasParts (counted_of args) (λ x. Ok (Swept x.0 x.1)) (counted_is args) (λ x are. are))
+      (either HasParts (is (codes "done") word) _ _ (step IsShort HasParts (number_alone args) (λ share. Ok (Reached share)) (number_alone_is args) (λ share fits. fits))
+      (either HasParts (is (codes "short") word) _ _ (step IsCounted HasParts (counted_of args) (λ x. Ok (Short x.0 x.1)) (counted_is args) (λ x are. are))
+      (either HasParts (is (codes "pinned") word) _ _ (step IsCounted HasParts (counted_of args) (λ x. Ok (Pinned x.0 x.1)) (counted_is args) (λ x are. are))
+      (either HasParts (eqb (length args) 0) (plain_of word) (call_answer_of word args) (plain_is word) call_answer_is)))))
+
   other_answer_is : IfOk (other_answer_of word args) HasParts
   other_answer_is =
       either HasParts (is (codes "got") word) _ _ (step IsBytes HasParts (with_one bytes_of args) (λ bytes. Ok (Got bytes)) (any_step IsBytes (one args) bytes_of bytes_are) (λ bytes are. are))
       (either HasParts (is (codes "tampered") word) (tampered_of args) _ (tampered_is args)
       (either HasParts (is (codes "noframe") word) _ _ (step AreLooked HasParts (sweep_of args) (λ sweep. Ok (NoFrame sweep)) (sweep_is args) (λ sweep are. are))
       (either HasParts (is (codes "illegal") word) _ _ (any_step HasParts (with_one part_of args) (λ part. Ok (Illegal part)) (λ part. tt))
-      (either HasParts (eqb (length args) 0) (plain_of word) (call_answer_of word args) (plain_is word) call_answer_is))))
+      survey_answer_is)))
 
   answer_of_is : IfOk (answer_of word args) HasParts
   answer_of_is =

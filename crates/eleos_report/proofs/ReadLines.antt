@@ -28,7 +28,7 @@ said_is kind stamp words = step IsStamp (IsLine kind) (optional_of most_u64 stam
     any_step (IsLine kind) (one_and_more words) _ (λ actor.
     step IsWho (IsLine kind) (who_of actor.0) _ (who_is actor.0) (λ who who_is.
     any_step (IsLine kind) (parted actor.1) _ (λ parts.
-    step (IsCommand kind) (IsLine kind) (command_in kind parts.0) _ (command_is kind parts.0) (λ command is.
+    step (IsCommand kind who) (IsLine kind) (command_in kind who parts.0) _ (command_is kind who parts.0) (λ command is.
     step (IsAnswer kind) (IsLine kind) (answer_in kind parts.1) _ (answer_is kind parts.1) (λ reply told. record {
       stamp_fits = place_is;
       actor_is = who_is;

@@ -12,10 +12,10 @@ use Rattle.eleos_texts.specs.Fields.{is, most_u32}
 use Rattle.eleos_texts.specs.Reasons.{one, two, one_and_more, with_one, with_one_and_more}
 use Rattle.eleos_texts.specs.Texts.{hex_text}
 use Rattle.eleos_report.specs.declared.answer.Answer.{Answer}
-use Rattle.eleos_report.specs.declared.answer.Answer.TheVariants.{At, Okay, Got, Put, BadSize, NoSpace, NotABlock, NotYours, BadRange, Unallocated, Worn, NoFrame, Illegal, Replied, WrongId, TooLong, BadStatus, Nothing, Skipped}
+use Rattle.eleos_report.specs.declared.answer.Answer.TheVariants.{At, Okay, Got, Put, BadSize, NoSpace, NotABlock, NotYours, BadRange, Unallocated, Worn, NoFrame, Enough, Swept, Reached, Short, Pinned, Illegal, Replied, WrongId, TooLong, BadStatus, Nothing, Skipped}
 use Rattle.eleos_report.specs.Fields.{formed, most_u64, number_of, bytes_of, block_of, looked_of}
 use Rattle.eleos_report.specs.Commands.{number_alone}
-use Rattle.eleos_report.specs.Answers.{is_reply, part_of, sweep_of, told_block_of, tampered_of, plain_of, long_alone, replied_of, call_answer_of, other_answer_of, answer_of, answer_in}
+use Rattle.eleos_report.specs.Answers.{is_reply, part_of, sweep_of, told_block_of, tampered_of, plain_of, long_alone, replied_of, call_answer_of, counted_of, survey_answer_of, other_answer_of, answer_of, answer_in}
 use Rattle.eleos_report.specs.Log.{looked_text, part_text, block_fields, answer_fields}
 use Rattle.eleos_report.proofs.ReadFields.{step, tested}
 use Rattle.eleos_report.proofs.SpelledHex.{lower}
@@ -89,6 +89,17 @@ module _ (word : List ℕ) (args : List (List ℕ)) where
   abbrev sweep_words : List Looked → List (List ℕ)
   sweep_words sweep = map looked_text sweep
 
+  abbrev counted_words : ℕ × List Looked → List (List ℕ)
+  counted_words x = decimal x.0 ∷ map looked_text x.1
+
+  counted_spelled : IfOk (counted_of args) (λ x. lowers args ≡ counted_words x)
+  counted_spelled =
+      let P : ℕ × List Looked → Type 0 = λ x. lowers args ≡ counted_words x in
+      step (λ x. args ≡ x.0 ∷ x.1) P (one_and_more args) _ (one_and_more_are args) (λ x are.
+      step (λ n. lower x.0 ≡ decimal n) P (number_of most_u32 x.0) _ (short_spelled x.0) (λ n n_same.
+      step (λ sweep. lowers x.1 ≡ map looked_text sweep) P (sweep_of x.1) _ (sweep_spelled x.1) (λ sweep sweep_same.
+      ap lowers are ∙ (rw (n_same, sweep_same) refl))))
+
   bytes_alone : IfOk (with_one bytes_of args) (λ bytes. lowers args ≡ hex_word bytes)
   bytes_alone = step (λ a. args ≡ a ∷ []) (λ bytes. lowers args ≡ hex_word bytes) (one args) bytes_of (one_is args) (λ a are.
       weaker (λ bytes. lower a ≡ hex_text bytes) (λ bytes. lowers args ≡ hex_word bytes) (bytes_of a) (bytes_spelled a) (λ bytes same. ap lowers are ∙ ap alone same))
@@ -116,13 +127,21 @@ module _ (word : List ℕ) (args : List (List ℕ)) where
       (when AreParts (is (codes "toolong") word) _ _ (verb_step answer_fields number_word (codes "toolong") word args (long_alone args) (λ seen. TooLong seen) refl long_spelled_alone (λ seen. refl))
       (when AreParts (is (codes "badstatus") word) _ (Err Form) (verb_step answer_fields number_word (codes "badstatus") word args (long_alone args) (λ seen. BadStatus seen) refl long_spelled_alone (λ seen. refl)) tt)))
 
+  survey_answer_spelled : IfOk (survey_answer_of word args) AreParts
+  survey_answer_spelled =
+      when AreParts (is (codes "enough") word) _ _ (verb_step answer_fields counted_words (codes "enough") word args (counted_of args) (λ x. Enough x.0 x.1) refl counted_spelled (λ x. refl))
+      (when AreParts (is (codes "swept") word) _ _ (verb_step answer_fields counted_words (codes "swept") word args (counted_of args) (λ x. Swept x.0 x.1) refl counted_spelled (λ x. refl))
+      (when AreParts (is (codes "done") word) _ _ (verb_step answer_fields number_word (codes "done") word args (number_alone args) (λ share. Reached share) refl (number_alone_spelled args) (λ share. refl))
+      (when AreParts (is (codes "short") word) _ _ (verb_step answer_fields counted_words (codes "short") word args (counted_of args) (λ x. Short x.0 x.1) refl counted_spelled (λ x. refl))
+      (when AreParts (is (codes "pinned") word) _ _ (verb_step answer_fields counted_words (codes "pinned") word args (counted_of args) (λ x. Pinned x.0 x.1) refl counted_spelled (λ x. refl))
+      (when AreParts (eqb (length args) 0) (plain_of word) (call_answer_of word args) (λ h. weaker (λ a. lower word ∷ [] ≡ answer_fields a) AreParts (plain_of word) (plain_spelled word) (λ a same. ap (λ ws. lower word ∷ lowers ws) (none_left args h) ∙ same)) call_answer_spelled)))))
+
   other_answer_spelled : IfOk (other_answer_of word args) AreParts
   other_answer_spelled =
       when AreParts (is (codes "got") word) _ _ (verb_step answer_fields hex_word (codes "got") word args (with_one bytes_of args) (λ bytes. Got bytes) refl bytes_alone (λ bytes. refl))
       (when AreParts (is (codes "tampered") word) (tampered_of args) _ (verb_all answer_fields (codes "tampered") word args (tampered_of args) refl (tampered_spelled args))
       (when AreParts (is (codes "noframe") word) _ _ (verb_step answer_fields sweep_words (codes "noframe") word args (sweep_of args) (λ sweep. NoFrame sweep) refl (sweep_spelled args) (λ sweep. refl))
-      (when AreParts (is (codes "illegal") word) _ _ (verb_step answer_fields part_word (codes "illegal") word args (with_one part_of args) (λ part. Illegal part) refl part_alone (λ part. refl))
-      (when AreParts (eqb (length args) 0) (plain_of word) (call_answer_of word args) (λ h. weaker (λ a. lower word ∷ [] ≡ answer_fields a) AreParts (plain_of word) (plain_spelled word) (λ a same. ap (λ ws. lower word ∷ lowers ws) (none_left args h) ∙ same)) call_answer_spelled))))
+      (when AreParts (is (codes "illegal") word) _ _ (verb_step answer_fields part_word (codes "illegal") word args (with_one part_of args) (λ part. Illegal part) refl part_alone (λ part. refl)) survey_answer_spelled)))
 
   answer_of_spelled : IfOk (answer_of word args) AreParts
   answer_of_spelled =

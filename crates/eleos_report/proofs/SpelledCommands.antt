@@ -5,17 +5,18 @@ use Rattle.std.specs.Fmt.{decimal}
 use Rattle.eleos_texts.specs.declared.why.Why.{Why}
 use Rattle.eleos_texts.specs.declared.why.Why.TheVariants.{Form}
 use Rattle.eleos_trace.specs.Calls.{call_named, call_text, with_call}
+use Rattle.eleos_trace.specs.declared.word.Actor.{Actor}
 use Rattle.eleos_trace.specs.declared.word.CallWord.{CallWord}
 use Rattle.eleos_trace.specs.declared.word.CallWord.TheVariants.{Echo, Put, Get, Cut, Clock}
 use Rattle.eleos_trace.specs.declared.word.Word.{Word}
-use Rattle.eleos_trace.specs.declared.word.Word.TheVariants.{Alloc, Free, Share, Tie, Untie, Fill, Evict, Move, Flip, SwapPlaces, Keep, Restore, Call}
+use Rattle.eleos_trace.specs.declared.word.Word.TheVariants.{Alloc, Free, Share, Tie, Untie, Fill, Evict, Move, Flip, SwapPlaces, Keep, Restore, SwapRound, SetShare, Call}
 use Rattle.eleos_trace.specs.declared.trace.Kind.{Kind}
 use Rattle.eleos_texts.specs.Fields.{is, most_u32}
 use Rattle.eleos_texts.specs.Reasons.{one, two, three, one_and_more, with_one_and_more, ◌>>=◌}
 use Rattle.eleos_texts.specs.Texts.{hex_text}
 use Rattle.eleos_trace.specs.Spelling.{fields, owner_text}
 use Rattle.eleos_report.specs.Fields.{formed, number_of, name_of, bytes_of, optional_of}
-use Rattle.eleos_report.specs.Commands.{is_command, is_move, name_alone, name_and_number, number_alone, two_numbers, read_of, write_of, call_of, move_of, host_command_of, frame_command_of, command_of, command_in}
+use Rattle.eleos_report.specs.Commands.{is_command, is_move, name_alone, name_and_number, number_alone, two_numbers, means_round, swap_word, read_of, write_of, call_of, move_of, host_command_of, frame_command_of, command_of, command_in}
 use Rattle.eleos_report.proofs.ReadFields.{step, tested}
 use Rattle.eleos_report.proofs.SpelledHex.{lower}
 use Rattle.eleos_report.proofs.SpelledFields.{when, weaker, verb_is, one_is, two_are, three_are, one_and_more_are, short_spelled, name_spelled, bytes_spelled, owner_spelled}
@@ -113,7 +114,12 @@ move_spelled args = step (λ x. args ≡ x.0 ∷ x.1 ∷ x.2 ∷ []) (λ c. code
     tested (λ c. codes "move" ∷ lowers args ≡ fields c) (is_move from to) (Move frame from to) (λ moves.
     ap (λ words. codes "move" ∷ lowers words) are ∙ (rw (frame_same, from_same, to_same) refl))))))
 
-module _ (verb : List ℕ) (args : List (List ℕ)) where
+-- what `swap` means is spelled so, whichever it means
+swap_fields : (round : Bool) (a b : ℕ) → fields (cond round (SwapRound a b) (SwapPlaces a b)) ≡ codes "swap" ∷ decimal a ∷ decimal b ∷ []
+swap_fields true a b = refl
+swap_fields false a b = refl
+
+module _ (kind : Kind) (who : Actor) (verb : List ℕ) (args : List (List ℕ)) where
   -- the words are those of the command
   abbrev AreFields : Word → Type 0
   AreFields command = lower verb ∷ lowers args ≡ fields command
@@ -128,33 +134,34 @@ module _ (verb : List ℕ) (args : List (List ℕ)) where
   abbrev number_words : ℕ → List (List ℕ)
   number_words n = decimal n ∷ []
 
-  host_command_spelled : IfOk (host_command_of verb args) AreFields
+  host_command_spelled : IfOk (host_command_of kind who verb args) AreFields
   host_command_spelled =
       when AreFields (is (codes "flip") verb) _ _ (verb_step fields two_words (codes "flip") verb args (two_numbers args) (λ x. Flip x.0 x.1) refl (two_numbers_spelled args) (λ x. refl))
-      (when AreFields (is (codes "swap") verb) _ _ (verb_step fields two_words (codes "swap") verb args (two_numbers args) (λ x. SwapPlaces x.0 x.1) refl (two_numbers_spelled args) (λ x. refl))
+      (when AreFields (is (codes "swap") verb) _ _ (verb_step fields two_words (codes "swap") verb args (two_numbers args) (λ x. swap_word kind who x.0 x.1) refl (two_numbers_spelled args) (λ x. swap_fields (means_round kind who) x.0 x.1))
       (when AreFields (is (codes "keep") verb) _ _ (verb_step fields number_words (codes "keep") verb args (number_alone args) (λ n. Keep n) refl (number_alone_spelled args) (λ n. refl))
       (when AreFields (is (codes "restore") verb) _ (Err Form) (verb_step fields number_words (codes "restore") verb args (number_alone args) (λ n. Restore n) refl (number_alone_spelled args) (λ n. refl)) tt)))
 
-  frame_command_spelled : IfOk (frame_command_of verb args) AreFields
+  frame_command_spelled : IfOk (frame_command_of kind who verb args) AreFields
   frame_command_spelled =
       when AreFields (is (codes "tie") verb) _ _ (verb_step fields pair_words (codes "tie") verb args (name_and_number args) (λ x. Tie x.0 x.1) refl (name_and_number_spelled args) (λ x. refl))
       (when AreFields (is (codes "untie") verb) _ _ (verb_step fields pair_words (codes "untie") verb args (name_and_number args) (λ x. Untie x.0 x.1) refl (name_and_number_spelled args) (λ x. refl))
       (when AreFields (is (codes "fill") verb) _ _ (verb_step fields two_words (codes "fill") verb args (two_numbers args) (λ x. Fill x.0 x.1) refl (two_numbers_spelled args) (λ x. refl))
       (when AreFields (is (codes "evict") verb) _ _ (verb_step fields two_words (codes "evict") verb args (two_numbers args) (λ x. Evict x.0 x.1) refl (two_numbers_spelled args) (λ x. refl))
-      (when AreFields (is (codes "move") verb) (move_of args) (host_command_of verb args) (verb_all fields (codes "move") verb args (move_of args) refl (move_spelled args)) host_command_spelled))))
+      (when AreFields (is (codes "move") verb) (move_of args) _ (verb_all fields (codes "move") verb args (move_of args) refl (move_spelled args))
+      (when AreFields (is (codes "balloon") verb) _ (host_command_of kind who verb args) (verb_step fields two_words (codes "balloon") verb args (two_numbers args) (λ x. SetShare x.0 x.1) refl (two_numbers_spelled args) (λ x. refl)) host_command_spelled)))))
 
-  pub command_of_spelled : IfOk (command_of verb args) AreFields
+  pub command_of_spelled : IfOk (command_of kind who verb args) AreFields
   command_of_spelled =
       when AreFields (is (codes "alloc") verb) _ _ (verb_step fields pair_words (codes "alloc") verb args (name_and_number args) (λ x. Alloc x.0 x.1) refl (name_and_number_spelled args) (λ x. refl))
       (when AreFields (is (codes "free") verb) _ _ (verb_step fields alone (codes "free") verb args (name_alone args) (λ name. Free name) refl (name_alone_spelled args) (λ name. refl))
       (when AreFields (is (codes "share") verb) _ _ (verb_step fields alone (codes "share") verb args (name_alone args) (λ name. Share name) refl (name_alone_spelled args) (λ name. refl))
       (when AreFields (is (codes "read") verb) (read_of args) _ (verb_all fields (codes "read") verb args (read_of args) refl (read_spelled args))
       (when AreFields (is (codes "write") verb) (write_of args) _ (verb_all fields (codes "write") verb args (write_of args) refl (write_spelled args))
-      (when AreFields (is (codes "call") verb) (call_of args) (frame_command_of verb args) (verb_all fields (codes "call") verb args (call_of args) refl (call_spelled args)) frame_command_spelled)))))
+      (when AreFields (is (codes "call") verb) (call_of args) (frame_command_of kind who verb args) (verb_all fields (codes "call") verb args (call_of args) refl (call_spelled args)) frame_command_spelled)))))
 
 -- the words that are read as a command are those that it is printed with, but for capitals
-pub command_spelled : (kind : Kind) (words : List (List ℕ)) → IfOk (command_in kind words) (λ c. lowers words ≡ fields c)
-command_spelled kind words = step (λ c. lowers words ≡ fields c) (λ c. lowers words ≡ fields c) (with_one_and_more command_of words) (λ c. formed (is_command kind c) c)
-    (step (λ x. words ≡ x.0 ∷ x.1) (λ c. lowers words ≡ fields c) (one_and_more words) (λ x. command_of x.0 x.1) (one_and_more_are words) (λ x are.
-    weaker (λ c. lower x.0 ∷ lowers x.1 ≡ fields c) (λ c. lowers words ≡ fields c) (command_of x.0 x.1) (command_of_spelled x.0 x.1) (λ c same. ap lowers are ∙ same)))
-    (λ c same. tested (λ c. lowers words ≡ fields c) (is_command kind c) c (λ h. same))
+pub command_spelled : (kind : Kind) (who : Actor) (words : List (List ℕ)) → IfOk (command_in kind who words) (λ c. lowers words ≡ fields c)
+command_spelled kind who words = step (λ c. lowers words ≡ fields c) (λ c. lowers words ≡ fields c) (with_one_and_more (command_of kind who) words) (λ c. formed (is_command kind who c) c)
+    (step (λ x. words ≡ x.0 ∷ x.1) (λ c. lowers words ≡ fields c) (one_and_more words) (λ x. command_of kind who x.0 x.1) (one_and_more_are words) (λ x are.
+    weaker (λ c. lower x.0 ∷ lowers x.1 ≡ fields c) (λ c. lowers words ≡ fields c) (command_of kind who x.0 x.1) (command_of_spelled kind who x.0 x.1) (λ c same. ap lowers are ∙ same)))
+    (λ c same. tested (λ c. lowers words ≡ fields c) (is_command kind who c) c (λ h. same))

@@ -50,7 +50,7 @@ said_spelled kind stamp words =
     step (λ x. words ≡ x.0 ∷ x.1) P (one_and_more words) _ (one_and_more_are words) (λ actor actor_are.
     step (λ who. lower actor.0 ≡ actor_text who) P (who_of actor.0) _ (who_spelled actor.0) (λ who who_same.
     step (AreParts actor.1) P (parted actor.1) _ (parted_is actor.1) (λ parts are.
-    step (λ command. lowers parts.0 ≡ fields command) P (command_in kind parts.0) _ (command_spelled kind parts.0) (λ command command_same.
+    step (λ command. lowers parts.0 ≡ fields command) P (command_in kind who parts.0) _ (command_spelled kind who parts.0) (λ command command_same.
     step (λ reply. lowers parts.1 ≡ answer_fields reply) P (answer_in kind parts.1) _ (answer_spelled kind parts.1) (λ reply reply_same.
     ap (λ ws. lower stamp ∷ lowers ws) (actor_are ∙ ap (λ ws. actor.0 ∷ ws) are) ∙ (rw (place_same, who_same, map-append lower parts.0 (codes "=" ∷ parts.1), command_same, reply_same) refl)))))))
 

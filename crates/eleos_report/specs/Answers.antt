@@ -10,17 +10,22 @@ use Rattle.eleos_texts.specs.Reasons.{with_one, with_two, with_one_and_more, ◌
 use Rattle.eleos_trace.specs.declared.trace.Kind.{Kind}
 use Rattle.eleos_trace.specs.declared.trace.Kind.TheVariants.{Run, Replay}
 use Rattle.eleos_report.specs.declared.answer.Answer.{Answer}
-use Rattle.eleos_report.specs.declared.answer.Answer.TheVariants.{At, Okay, Got, Put, BadSize, NoSpace, NotABlock, NotYours, BadRange, Unallocated, Worn, Tampered, NoFrame, Illegal, Replied, WrongId, TooLong, BadStatus, Nothing, Skipped}
+use Rattle.eleos_report.specs.declared.answer.Answer.TheVariants.{At, Okay, Got, Put, BadSize, NoSpace, NotABlock, NotYours, BadRange, Unallocated, Worn, Tampered, NoFrame, Enough, Swept, Reached, Short, Pinned, Illegal, Replied, WrongId, TooLong, BadStatus, Nothing, Skipped}
 use Rattle.eleos_report.specs.Fields.{formed, most_u64, number_of, bytes_of, block_of, looked_of}
 use Rattle.eleos_report.specs.Commands.{number_alone}
 
 -- the reply stands in logs of this kind: a run has nothing illegal and tells the block that did not pass,
--- and a replay starves for no frame and calls no host
+-- and a replay starves for no frame, has no round of the swapper and no change of a share, and calls no host
 abbrev pub is_reply : Kind → Answer → Bool
 is_reply Run (Illegal part) = false
 is_reply Run (Tampered sub None) = false
 is_reply Replay (Tampered sub (Some block)) = false
 is_reply Replay (NoFrame sweep) = false
+is_reply Replay (Enough free sweep) = false
+is_reply Replay (Swept free sweep) = false
+is_reply Replay (Reached share) = false
+is_reply Replay (Short share sweep) = false
+is_reply Replay (Pinned share sweep) = false
 is_reply Replay (Replied status bytes) = false
 is_reply Replay (WrongId seen) = false
 is_reply Replay (TooLong seen) = false
@@ -45,6 +50,13 @@ sweep_of (text ∷ texts) = do
   looked ← looked_of text
   sweep ← sweep_of texts
   Ok (looked ∷ sweep)
+
+-- `N` and the frames of a sweep
+abbrev pub counted_of : List (List ℕ) → Result (ℕ × List Looked) Why
+counted_of = with_one_and_more (λ n more. (do
+  n ← number_of most_u32 n
+  sweep ← sweep_of more
+  Ok (n, sweep)))
 
 -- the block that did not pass, where one is told
 abbrev pub told_block_of : List (List ℕ) → Result (Option (List ℕ)) Why
@@ -91,15 +103,25 @@ module _ (word : List ℕ) (args : List (List ℕ)) where
       else if is (codes "badstatus") word then (long_alone args >>= λ seen. Ok (BadStatus seen))
       else Err Form
 
-  -- a word that has more than a number behind it, or a plain one
+  -- how a round of the swapper or a change of a share ended, or a plain word
+  abbrev pub survey_answer_of : Result Answer Why
+  survey_answer_of =
+      if is (codes "enough") word then (counted_of args >>= λ x. Ok (Enough x.0 x.1))
+      else if is (codes "swept") word then (counted_of args >>= λ x. Ok (Swept x.0 x.1))
+      else if is (codes "done") word then (number_alone args >>= λ share. Ok (Reached share))
+      else if is (codes "short") word then (counted_of args >>= λ x. Ok (Short x.0 x.1))
+      else if is (codes "pinned") word then (counted_of args >>= λ x. Ok (Pinned x.0 x.1))
+      else if length args == 0 then plain_of word
+      else call_answer_of
+
+  -- a word that has more than a number behind it, or one of those
   abbrev pub other_answer_of : Result Answer Why
   other_answer_of =
       if is (codes "got") word then (with_one bytes_of args >>= λ bytes. Ok (Got bytes))
       else if is (codes "tampered") word then tampered_of args
       else if is (codes "noframe") word then (sweep_of args >>= λ sweep. Ok (NoFrame sweep))
       else if is (codes "illegal") word then (with_one part_of args >>= λ part. Ok (Illegal part))
-      else if length args == 0 then plain_of word
-      else call_answer_of
+      else survey_answer_of
 
   -- a word and a number, or one of those
   abbrev pub answer_of : Result Answer Why

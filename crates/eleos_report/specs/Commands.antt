@@ -1,22 +1,37 @@
 -- Commands by their words.
-use Rattle.std.specs.Prelude.{ℕ, List, Bool, true, false, Option, Some, None, Result, Ok, Err, codes, if◌then◌else◌}
+use Rattle.std.specs.Prelude.{ℕ, List, Bool, true, false, not, Option, Some, None, Result, Ok, Err, codes, if◌then◌else◌}
 use Rattle.eleos_texts.specs.declared.why.Why.{Why}
 use Rattle.eleos_texts.specs.declared.why.Why.TheVariants.{Form}
+use Rattle.eleos_trace.specs.declared.word.Actor.{Actor}
 use Rattle.eleos_trace.specs.declared.word.Word.{Word}
-use Rattle.eleos_trace.specs.declared.word.Word.TheVariants.{Alloc, Free, Share, Read, Write, Tie, Untie, Fill, Evict, Move, Flip, SwapPlaces, Keep, Restore, Call}
+use Rattle.eleos_trace.specs.declared.word.Word.TheVariants.{Alloc, Free, Share, Read, Write, Tie, Untie, Fill, Evict, Move, Flip, SwapPlaces, Keep, Restore, SwapRound, SetShare, Call}
 use Rattle.eleos_texts.specs.Fields.{is, most_u32}
 use Rattle.eleos_texts.specs.Reasons.{with_one, with_two, with_three, with_one_and_more, ◌>>=◌}
+use Rattle.eleos_trace.specs.Actors.{is_host}
 use Rattle.eleos_trace.specs.Calls.{call_named, with_call}
 use Rattle.eleos_trace.specs.declared.trace.Kind.{Kind}
 use Rattle.eleos_trace.specs.declared.trace.Kind.TheVariants.{Run, Replay}
 use Rattle.eleos_report.specs.Fields.{formed, number_of, name_of, bytes_of, optional_of}
 
--- the command stands in logs of this kind
-abbrev pub is_command : Kind → Word → Bool
-is_command Run (Tie name offset) = false
-is_command Run (Untie name offset) = false
-is_command Replay (Call call bytes room) = false
-is_command kind command = true
+-- the command of this actor stands in logs of this kind
+abbrev pub is_command : Kind → Actor → Word → Bool
+is_command Run who (Tie name offset) = false
+is_command Run who (Untie name offset) = false
+is_command Run who (SwapPlaces a b) = is_host who
+is_command Run who (SwapRound enclave low) = not (is_host who)
+is_command Replay who (SwapRound enclave low) = false
+is_command Replay who (SetShare enclave to) = false
+is_command Replay who (Call call bytes room) = false
+is_command kind who command = true
+
+-- by `swap` this actor means a round of the swapper
+abbrev pub means_round : Kind → Actor → Bool
+means_round Run who = not (is_host who)
+means_round Replay who = false
+
+-- what it means by `swap` with these numbers
+abbrev pub swap_word : Kind → Actor → ℕ → ℕ → Word
+swap_word kind who a b = if means_round kind who then SwapRound a b else SwapPlaces a b
 
 -- one of both owners is the pool, which is none, and the other an enclave
 abbrev pub is_move : Option ℕ → Option ℕ → Bool
@@ -77,12 +92,12 @@ move_of = with_three (λ frame from to. (do
   to ← optional_of most_u32 to
   formed (is_move from to) (Move frame from to)))
 
-module _ (verb : List ℕ) (args : List (List ℕ)) where
-  -- what the host does with its places
+module _ (kind : Kind) (who : Actor) (verb : List ℕ) (args : List (List ℕ)) where
+  -- what the host does with its places, or a round of the swapper
   abbrev pub host_command_of : Result Word Why
   host_command_of =
       if is (codes "flip") verb then (two_numbers args >>= λ x. Ok (Flip x.0 x.1))
-      else if is (codes "swap") verb then (two_numbers args >>= λ x. Ok (SwapPlaces x.0 x.1))
+      else if is (codes "swap") verb then (two_numbers args >>= λ x. Ok (swap_word kind who x.0 x.1))
       else if is (codes "keep") verb then (number_alone args >>= λ place. Ok (Keep place))
       else if is (codes "restore") verb then (number_alone args >>= λ place. Ok (Restore place))
       else Err Form
@@ -95,6 +110,7 @@ module _ (verb : List ℕ) (args : List (List ℕ)) where
       else if is (codes "fill") verb then (two_numbers args >>= λ x. Ok (Fill x.0 x.1))
       else if is (codes "evict") verb then (two_numbers args >>= λ x. Ok (Evict x.0 x.1))
       else if is (codes "move") verb then move_of args
+      else if is (codes "balloon") verb then (two_numbers args >>= λ x. Ok (SetShare x.0 x.1))
       else host_command_of
 
   -- what a caller does with its memory, or asks of the host, or one of those
@@ -108,6 +124,6 @@ module _ (verb : List ℕ) (args : List (List ℕ)) where
       else if is (codes "call") verb then call_of args
       else frame_command_of
 
--- a command of this kind
-abbrev pub command_in : Kind → List (List ℕ) → Result Word Why
-command_in kind words = with_one_and_more command_of words >>= λ command. formed (is_command kind command) command
+-- a command of this actor in a log of this kind
+abbrev pub command_in : Kind → Actor → List (List ℕ) → Result Word Why
+command_in kind who words = with_one_and_more (command_of kind who) words >>= λ command. formed (is_command kind who command) command

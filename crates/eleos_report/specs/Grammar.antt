@@ -6,11 +6,11 @@ use Rattle.eleos_base.specs.declared.memory.Looked.{Looked}
 use Rattle.eleos_trace.specs.declared.word.Actor as actors
 use Rattle.eleos_trace.specs.declared.word.Actor.TheVariants.{Caller, Swapper, Balloon, Host}
 use Rattle.eleos_trace.specs.declared.word.Word.{Word}
-use Rattle.eleos_trace.specs.declared.word.Word.TheVariants.{Alloc, Free, Share, Read, Write, Tie, Untie, Fill, Evict, Move, Flip, SwapPlaces, Keep, Restore, Call}
+use Rattle.eleos_trace.specs.declared.word.Word.TheVariants.{Alloc, Free, Share, Read, Write, Tie, Untie, Fill, Evict, Move, Flip, SwapPlaces, Keep, Restore, SwapRound, SetShare, Call}
 use Rattle.eleos_texts.specs.Fields.{is_name}
 use Rattle.eleos_trace.specs.declared.trace.Kind.{Kind}
 use Rattle.eleos_report.specs.declared.answer.Answer.{Answer}
-use Rattle.eleos_report.specs.declared.answer.Answer.TheVariants.{At, Okay, Got, Put, BadSize, NoSpace, NotABlock, NotYours, BadRange, Unallocated, Worn, Tampered, NoFrame, Illegal, Replied, WrongId, TooLong, BadStatus, Nothing, Skipped}
+use Rattle.eleos_report.specs.declared.answer.Answer.TheVariants.{At, Okay, Got, Put, BadSize, NoSpace, NotABlock, NotYours, BadRange, Unallocated, Worn, Tampered, NoFrame, Enough, Swept, Reached, Short, Pinned, Illegal, Replied, WrongId, TooLong, BadStatus, Nothing, Skipped}
 use Rattle.eleos_report.specs.declared.line.LogLine.{LogLine}
 use Rattle.eleos_report.specs.declared.line.LogLine.TheVariants.{Said, End}
 use Rattle.eleos_report.specs.Fields.{block_bytes}
@@ -53,6 +53,8 @@ HasFields (Flip place bit) = IsShort place × IsShort bit
 HasFields (SwapPlaces a b) = IsShort a × IsShort b
 HasFields (Keep place) = IsShort place
 HasFields (Restore place) = IsShort place
+HasFields (SwapRound enclave low) = IsShort enclave × IsShort low
+HasFields (SetShare enclave to) = IsShort enclave × IsShort to
 HasFields (Call call bytes room) = IsBytes bytes × IsShort room
 
 -- the bytes of a block
@@ -78,6 +80,11 @@ HasParts Unallocated = Unit {0}
 HasParts (Worn sub) = IsShort sub
 HasParts (Tampered sub block) = IsShort sub × IfSome block IsBlock
 HasParts (NoFrame sweep) = AllByRecursion IsLooked sweep
+HasParts (Enough free sweep) = IsShort free × AllByRecursion IsLooked sweep
+HasParts (Swept free sweep) = IsShort free × AllByRecursion IsLooked sweep
+HasParts (Reached share) = IsShort share
+HasParts (Short share sweep) = IsShort share × AllByRecursion IsLooked sweep
+HasParts (Pinned share sweep) = IsShort share × AllByRecursion IsLooked sweep
 HasParts (Illegal part) = Unit {0}
 HasParts (Replied status bytes) = IsLong status × IsBytes bytes
 HasParts (WrongId seen) = IsLong seen
@@ -90,7 +97,7 @@ HasParts Skipped = Unit {0}
 pub record Stands (kind : Kind) (stamp : Option ℕ) (actor : actors.Actor) (command : Word) (reply : Answer) : Type 0 where
   pub stamp_fits : IfSome stamp IsLong
   pub actor_is : IsWho actor
-  pub command_is : is_command kind command ≡ true
+  pub command_is : is_command kind actor command ≡ true
   pub command_has : HasFields command
   pub reply_is : is_reply kind reply ≡ true
   pub reply_has : HasParts reply

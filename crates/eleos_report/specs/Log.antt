@@ -8,7 +8,7 @@ use Rattle.eleos_base.specs.declared.memory.Part.TheVariants.{Present, Frame, Ab
 use Rattle.eleos_texts.specs.Texts.{hex_text}
 use Rattle.eleos_trace.specs.Spelling.{fields, actor_text}
 use Rattle.eleos_report.specs.declared.answer.Answer.{Answer}
-use Rattle.eleos_report.specs.declared.answer.Answer.TheVariants.{At, Okay, Got, Put, BadSize, NoSpace, NotABlock, NotYours, BadRange, Unallocated, Worn, Tampered, NoFrame, Illegal, Replied, WrongId, TooLong, BadStatus, Nothing, Skipped}
+use Rattle.eleos_report.specs.declared.answer.Answer.TheVariants.{At, Okay, Got, Put, BadSize, NoSpace, NotABlock, NotYours, BadRange, Unallocated, Worn, Tampered, NoFrame, Enough, Swept, Reached, Short, Pinned, Illegal, Replied, WrongId, TooLong, BadStatus, Nothing, Skipped}
 use Rattle.eleos_report.specs.declared.line.LogLine.{LogLine}
 use Rattle.eleos_report.specs.declared.line.LogLine.TheVariants.{Said, End}
 
@@ -30,6 +30,10 @@ abbrev pub block_fields : Option (List ℕ) → List (List ℕ)
 block_fields None = []
 block_fields (Some block) = hex_text block ∷ []
 
+-- a number and the frames of a sweep with their words, behind a word
+abbrev pub counted_fields : List ℕ → ℕ → List Looked → List (List ℕ)
+counted_fields word count sweep = word ∷ decimal count ∷ map looked_text sweep
+
 -- a reply word by word
 abbrev pub answer_fields : Answer → List (List ℕ)
 answer_fields (At at) = codes "at" ∷ decimal at ∷ []
@@ -45,6 +49,11 @@ answer_fields Unallocated = codes "unallocated" ∷ []
 answer_fields (Worn sub) = codes "worn" ∷ decimal sub ∷ []
 answer_fields (Tampered sub block) = codes "tampered" ∷ decimal sub ∷ block_fields block
 answer_fields (NoFrame sweep) = codes "noframe" ∷ map looked_text sweep
+answer_fields (Enough free sweep) = counted_fields (codes "enough") free sweep
+answer_fields (Swept free sweep) = counted_fields (codes "swept") free sweep
+answer_fields (Reached share) = codes "done" ∷ decimal share ∷ []
+answer_fields (Short share sweep) = counted_fields (codes "short") share sweep
+answer_fields (Pinned share sweep) = counted_fields (codes "pinned") share sweep
 answer_fields (Illegal part) = codes "illegal" ∷ part_text part ∷ []
 answer_fields (Replied status bytes) = codes "reply" ∷ decimal status ∷ hex_text bytes ∷ []
 answer_fields (WrongId seen) = codes "wrongid" ∷ decimal seen ∷ []

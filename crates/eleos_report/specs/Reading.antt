@@ -30,7 +30,7 @@ said_of kind stamp words = do
   actor ← one_and_more words
   who ← who_of actor.0
   parts ← parted actor.1
-  command ← command_in kind parts.0
+  command ← command_in kind who parts.0
   reply ← answer_in kind parts.1
   Ok (Said stamp who command reply)
 

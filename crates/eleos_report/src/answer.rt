@@ -25,6 +25,17 @@ pub enum Answer {
     Tampered { sub: u32, block: Option<Block> },
     /// Each frame that was looked at, with the word that was seen there.
     NoFrame { sweep: List<Looked> },
+    /// A round of the swapper found or made so many frames free. What it noted of each frame stands
+    /// behind it, as behind the four others with a sweep.
+    Enough { free: u32, sweep: List<Looked> },
+    /// A round of the swapper found or made fewer frames free than were wanted.
+    Swept { free: u32, sweep: List<Looked> },
+    /// The enclave's share is so many frames, as was wanted.
+    Reached { share: u32 },
+    /// The share is smaller, as no frame of the pool could be had.
+    Short { share: u32, sweep: List<Looked> },
+    /// The share is larger, as no frame of the enclave could be had.
+    Pinned { share: u32, sweep: List<Looked> },
     /// What the command offends against.
     Illegal { part: Part },
     /// The host answered a call with this status and these bytes.

@@ -5,41 +5,56 @@ ghost use Rattle.eleos_report.specs.Commands.{is_command, is_move, name_alone, n
 ghost use Rattle.eleos_report.specs.Commands.{number_alone, two_numbers, read_of, write_of};
 ghost use Rattle.eleos_report.specs.Commands.{call_of, move_of};
 ghost use Rattle.eleos_report.specs.Commands.{command_in, command_of, frame_command_of};
-ghost use Rattle.eleos_report.specs.Commands.{host_command_of};
+ghost use Rattle.eleos_report.specs.Commands.{host_command_of, means_round, swap_word};
 
 use crate::fields::{bytes_of, name_of, number_of, owner_of};
 use eleos_base::Bytes;
 use eleos_texts::counts::{one, one_and_more, three, two};
 use eleos_texts::{LineRefused, Why, refused};
-use eleos_trace::{CallWord, Kind, Word};
+use eleos_trace::{Actor, CallWord, Kind, Word, is_host};
 use std::alloc::Global;
 
-/// A command of this kind.
-pub(crate) fn command_in(alloc: Global, kind: Kind, words: &[&[u8]]) -> Result<Word, LineRefused>
+/// A command of this actor in a log of this kind.
+pub(crate) fn command_in(
+    alloc: Global,
+    kind: Kind,
+    actor: Actor,
+    words: &[&[u8]],
+) -> Result<Word, LineRefused>
     ensures { Reads (λ command. command) result
-        (command_in kind (map (λ word. word.now) words.now)) }
+        (command_in kind actor (map (λ word. word.now) words.now)) }
 {
     let (verb, args) = one_and_more(words)?;
-    let command = command_of(alloc, verb, args)?;
-    if !is_command(kind, &command) {
+    let command = command_of(alloc, kind, actor, verb, args)?;
+    if !is_command(kind, actor, &command) {
         return refused(Why::Form);
     }
     Ok(command)
 }
 
-/// Whether the command stands in logs of this kind.
-fn is_command(kind: Kind, command: &Word) -> bool
-    ensures { result ≡ is_command kind command.now }
+/// Whether the command of this actor stands in logs of this kind.
+fn is_command(kind: Kind, actor: Actor, command: &Word) -> bool
+    ensures { result ≡ is_command kind actor command.now }
 {
-    match kind {
-        Kind::Run => !matches!(command, Word::Tie { .. } | Word::Untie { .. }),
-        Kind::Replay => !matches!(command, Word::Call { .. }),
+    match (kind, command) {
+        (Kind::Run, Word::Tie { .. } | Word::Untie { .. }) => false,
+        (Kind::Run, Word::SwapPlaces { .. }) => is_host(actor),
+        (Kind::Run, Word::SwapRound { .. }) => !is_host(actor),
+        (Kind::Replay, Word::SwapRound { .. } | Word::SetShare { .. }) => false,
+        (Kind::Replay, Word::Call { .. }) => false,
+        _ => true,
     }
 }
 
-fn command_of(alloc: Global, verb: &[u8], args: &[&[u8]]) -> Result<Word, LineRefused>
+fn command_of(
+    alloc: Global,
+    kind: Kind,
+    actor: Actor,
+    verb: &[u8],
+    args: &[&[u8]],
+) -> Result<Word, LineRefused>
     ensures { Reads (λ command. command) result
-        (command_of verb.now (map (λ arg. arg.now) args.now)) }
+        (command_of kind actor verb.now (map (λ arg. arg.now) args.now)) }
 {
     if verb == b"alloc".as_slice() {
         let (name, bytes) = name_and_number(alloc, args)?;
@@ -57,13 +72,19 @@ fn command_of(alloc: Global, verb: &[u8], args: &[&[u8]]) -> Result<Word, LineRe
     } else if verb == b"call".as_slice() {
         call_of(alloc, args)
     } else {
-        frame_command_of(alloc, verb, args)
+        frame_command_of(alloc, kind, actor, verb, args)
     }
 }
 
-fn frame_command_of(alloc: Global, verb: &[u8], args: &[&[u8]]) -> Result<Word, LineRefused>
+fn frame_command_of(
+    alloc: Global,
+    kind: Kind,
+    actor: Actor,
+    verb: &[u8],
+    args: &[&[u8]],
+) -> Result<Word, LineRefused>
     ensures { Reads (λ command. command) result
-        (frame_command_of verb.now (map (λ arg. arg.now) args.now)) }
+        (frame_command_of kind actor verb.now (map (λ arg. arg.now) args.now)) }
 {
     if verb == b"tie".as_slice() {
         let (name, offset) = name_and_number(alloc, args)?;
@@ -79,21 +100,29 @@ fn frame_command_of(alloc: Global, verb: &[u8], args: &[&[u8]]) -> Result<Word, 
         Ok(Word::Evict { page, frame })
     } else if verb == b"move".as_slice() {
         move_of(args)
+    } else if verb == b"balloon".as_slice() {
+        let (enclave, to) = two_numbers(args)?;
+        Ok(Word::SetShare { enclave, to })
     } else {
-        host_command_of(verb, args)
+        host_command_of(kind, actor, verb, args)
     }
 }
 
-fn host_command_of(verb: &[u8], args: &[&[u8]]) -> Result<Word, LineRefused>
+fn host_command_of(
+    kind: Kind,
+    actor: Actor,
+    verb: &[u8],
+    args: &[&[u8]],
+) -> Result<Word, LineRefused>
     ensures { Reads (λ command. command) result
-        (host_command_of verb.now (map (λ arg. arg.now) args.now)) }
+        (host_command_of kind actor verb.now (map (λ arg. arg.now) args.now)) }
 {
     if verb == b"flip".as_slice() {
         let (place, bit) = two_numbers(args)?;
         Ok(Word::Flip { place, bit })
     } else if verb == b"swap".as_slice() {
         let (a, b) = two_numbers(args)?;
-        Ok(Word::SwapPlaces { a, b })
+        Ok(swap_word(kind, actor, a, b))
     } else if verb == b"keep".as_slice() {
         let place = number_alone(args)?;
         Ok(Word::Keep { place })
@@ -102,6 +131,27 @@ fn host_command_of(verb: &[u8], args: &[&[u8]]) -> Result<Word, LineRefused>
         Ok(Word::Restore { place })
     } else {
         refused(Why::Form)
+    }
+}
+
+/// What the actor means by `swap`.
+fn swap_word(kind: Kind, actor: Actor, a: u32, b: u32) -> Word
+    ensures { result ≡ swap_word kind actor a b }
+{
+    if means_round(kind, actor) {
+        Word::SwapRound { enclave: a, low: b }
+    } else {
+        Word::SwapPlaces { a, b }
+    }
+}
+
+/// Whether the actor means a round of the swapper by it.
+fn means_round(kind: Kind, actor: Actor) -> bool
+    ensures { result ≡ means_round kind actor }
+{
+    match kind {
+        Kind::Run => !is_host(actor),
+        Kind::Replay => false,
     }
 }
 

@@ -106,7 +106,7 @@ fn said_of(alloc: Global, kind: Kind, stamp: &[u8], words: &[&[u8]]) -> Result<L
     let (actor, words) = one_and_more(words)?;
     let actor = who_of(actor)?;
     let (command, reply) = parted(words)?;
-    let command = command_in(alloc, kind, command)?;
+    let command = command_in(alloc, kind, actor, command)?;
     let reply = answer_in(alloc, kind, reply)?;
     Ok(LogLine::Said {
         stamp,

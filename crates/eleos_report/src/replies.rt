@@ -4,6 +4,7 @@ ghost use Rattle.eleos_texts.specs.Reasons.{Reads};
 ghost use Rattle.eleos_report.specs.Answers.{is_reply, part_of, sweep_of, told_block_of};
 ghost use Rattle.eleos_report.specs.Answers.{tampered_of, plain_of, other_answer_of, answer_of};
 ghost use Rattle.eleos_report.specs.Answers.{answer_in, call_answer_of, long_alone, replied_of};
+ghost use Rattle.eleos_report.specs.Answers.{counted_of, survey_answer_of};
 
 use crate::commands::number_alone;
 use crate::fields::{block_of, bytes_of, long_number_of, looked_of, number_of};
@@ -35,6 +36,9 @@ fn is_reply(kind: Kind, reply: &Answer) -> bool
         (Kind::Run, Answer::Tampered { block, .. }) => block.is_some(),
         (Kind::Replay, Answer::Tampered { block, .. }) => block.is_none(),
         (Kind::Replay, Answer::NoFrame { .. }) => false,
+        (Kind::Replay, Answer::Enough { .. } | Answer::Swept { .. }) => false,
+        (Kind::Replay, Answer::Reached { .. } | Answer::Short { .. }) => false,
+        (Kind::Replay, Answer::Pinned { .. }) => false,
         (Kind::Replay, Answer::Replied { .. } | Answer::WrongId { .. }) => false,
         (Kind::Replay, Answer::TooLong { .. } | Answer::BadStatus { .. }) => false,
         _ => true,
@@ -78,11 +82,46 @@ fn other_answer_of(alloc: Global, word: &[u8], args: &[&[u8]]) -> Result<Answer,
     } else if word == b"illegal".as_slice() {
         let part = part_of(one(args)?)?;
         Ok(Answer::Illegal { part })
+    } else {
+        survey_answer_of(alloc, word, args)
+    }
+}
+
+/// How a round of the swapper or a change of a share ended, or a plain word.
+fn survey_answer_of(alloc: Global, word: &[u8], args: &[&[u8]]) -> Result<Answer, LineRefused>
+    ensures { Reads (λ reply. reply) result
+        (survey_answer_of word.now (map (λ arg. arg.now) args.now)) }
+{
+    if word == b"enough".as_slice() {
+        let (free, sweep) = counted_of(alloc, args)?;
+        Ok(Answer::Enough { free, sweep })
+    } else if word == b"swept".as_slice() {
+        let (free, sweep) = counted_of(alloc, args)?;
+        Ok(Answer::Swept { free, sweep })
+    } else if word == b"done".as_slice() {
+        let share = number_alone(args)?;
+        Ok(Answer::Reached { share })
+    } else if word == b"short".as_slice() {
+        let (share, sweep) = counted_of(alloc, args)?;
+        Ok(Answer::Short { share, sweep })
+    } else if word == b"pinned".as_slice() {
+        let (share, sweep) = counted_of(alloc, args)?;
+        Ok(Answer::Pinned { share, sweep })
     } else if args.is_empty() {
         plain_of(word)
     } else {
         call_answer_of(alloc, word, args)
     }
+}
+
+/// A number, and the frames of a sweep with their words.
+fn counted_of(alloc: Global, args: &[&[u8]]) -> Result<(u32, List<Looked>), LineRefused>
+    ensures { Reads (λ both. both) result (counted_of (map (λ arg. arg.now) args.now)) }
+{
+    let (count, more) = one_and_more(args)?;
+    let count = number_of(count)?;
+    let sweep = sweep_of(alloc, more)?;
+    Ok((count, sweep))
 }
 
 /// What a call of the host came to.

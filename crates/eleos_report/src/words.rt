@@ -58,6 +58,8 @@ pub(crate) fn push_command(alloc: Global, out: &mut Vec<u8>, command: &Word) -> 
         Word::SwapPlaces { a, b } => push_two(alloc, out, b"swap", *a, *b),
         Word::Keep { place } => push_numbered(alloc, out, b"keep", *place),
         Word::Restore { place } => push_numbered(alloc, out, b"restore", *place),
+        Word::SwapRound { enclave, low } => push_two(alloc, out, b"swap", *enclave, *low),
+        Word::SetShare { enclave, to } => push_two(alloc, out, b"balloon", *enclave, *to),
         Word::Call { call, bytes, room } => {
             push(out, b" call")?;
             push_field(out, call.text())?;

@@ -8,7 +8,7 @@ ghost use Rattle.eleos_trace.specs.declared.trace.Kind.{Kind};
 ghost use Rattle.eleos_report.specs.Grammar.{IsLine};
 ghost use Rattle.eleos_trace.specs.Spelling.{actor_text, fields};
 ghost use Rattle.eleos_report.specs.Log.{answer_fields, line_text, looked_text, part_text};
-ghost use Rattle.eleos_report.specs.Log.{block_fields, spaced, stamp_text};
+ghost use Rattle.eleos_report.specs.Log.{block_fields, counted_fields, spaced, stamp_text};
 
 use crate::words::{push_actor, push_command};
 use crate::{Answer, Block, LogLine};
@@ -140,6 +140,19 @@ fn push_answer(alloc: Global, out: &mut Vec<u8>, answer: &Answer) -> Result<(), 
             push(out, b" noframe")?;
             push_sweep(alloc, out, sweep.as_slice())
         }
+        Answer::Enough { free, sweep } => {
+            push_counted(alloc, out, b"enough", *free, sweep.as_slice())
+        }
+        Answer::Swept { free, sweep } => {
+            push_counted(alloc, out, b"swept", *free, sweep.as_slice())
+        }
+        Answer::Reached { share } => push_numbered(alloc, out, b"done", *share),
+        Answer::Short { share, sweep } => {
+            push_counted(alloc, out, b"short", *share, sweep.as_slice())
+        }
+        Answer::Pinned { share, sweep } => {
+            push_counted(alloc, out, b"pinned", *share, sweep.as_slice())
+        }
         Answer::Illegal { part } => {
             push(out, b" illegal")?;
             push_field(out, part_word(*part))
@@ -172,6 +185,21 @@ fn push_block(out: &mut Vec<u8>, block: &Option<Block>) -> Result<(), NoMemory>
         Some(block) => push_hex_field(out, block.as_slice()),
         None => Ok(()),
     }
+}
+
+/// A word, a number, and each frame with its word.
+fn push_counted(
+    alloc: Global,
+    out: &mut Vec<u8>,
+    word: &[u8],
+    count: u32,
+    sweep: &[Looked],
+) -> Result<(), NoMemory>
+    ensures { OnOk result (out.new.items
+        ≡ out.old.items ++ spaced (counted_fields word.now count sweep.now)) }
+{
+    push_numbered(alloc, out, word, count)?;
+    push_sweep(alloc, out, sweep)
 }
 
 /// Each frame with its word.

@@ -23,7 +23,7 @@ use Rattle.eleos_trace.specs.Lines.{later, word_of, command_of, said, line_of}
 use Rattle.eleos_trace.specs.Verbs.{verb_of}
 use Rattle.eleos_trace.specs.WholeHeader.{plan_of}
 use Rattle.eleos_texts.proofs.Inversion.{bind_ok, guard_ok, no_value, ok_is}
-use Rattle.eleos_trace.proofs.Given.{IsGiven, given, free_may, share_may, name_ok, offset_ok, page_and_frame_ok, place_ok, alloc_ok, read_ok, write_ok, call_ok, call_no, move_ok, flip_ok, swap_ok}
+use Rattle.eleos_trace.proofs.Given.{IsGiven, given, free_may, share_may, name_ok, offset_ok, page_and_frame_ok, place_ok, alloc_ok, read_ok, write_ok, call_ok, call_no, move_ok, flip_ok, swap_ok, swap_round_ok, swap_round_no, balloon_ok, balloon_no}
 
 -- a command that is not built is never read
 later_no : (tests : Result (Unit {0}) Why) (word : Word) → later tests ≡ Ok word → ⊥
@@ -60,8 +60,8 @@ module _ (header : Header) (seen : Seen) (who : actors.Actor) (args : List (List
   run_ok verbs.Step e built = absurd cc
   run_ok verbs.ReadAt e built = absurd cc
   run_ok verbs.WriteAt e built = absurd cc
-  run_ok verbs.SwapRound e built = absurd cc
-  run_ok verbs.Balloon e built = absurd cc
+  run_ok verbs.SwapRound e built = swap_round_ok header seen who args word e
+  run_ok verbs.Balloon e built = balloon_ok header seen who args word e
   run_ok verbs.Call e built = call_ok header seen who args word e
 
   -- of a replay
@@ -112,8 +112,8 @@ module _ (header : Header) (seen : Seen) (who : actors.Actor) (args : List (List
   replay_ok verbs.Step e = absurd (later_no _ word e)
   replay_ok verbs.ReadAt e = absurd (later_no _ word e)
   replay_ok verbs.WriteAt e = absurd (later_no _ word e)
-  replay_ok verbs.SwapRound e = absurd (later_no _ word e)
-  replay_ok verbs.Balloon e = absurd (later_no _ word e)
+  replay_ok verbs.SwapRound e = absurd (swap_round_no header seen who args word e)
+  replay_ok verbs.Balloon e = absurd (balloon_no header seen who args word e)
   replay_ok verbs.Call e = absurd (call_no header seen who args word e)
 
   -- of a trace of either kind

@@ -1,26 +1,29 @@
 -- What the tests of a command leave: there was room for it, and its actor may give it.
-use Rattle.std.proofs.Common.{◌≡◌, ℕ, ◌<◌, ◌≤◌, List, [], ◌∷◌, Option, Some, None, Bool, true, false, length, nat_le, ◌&&◌, Result, Ok, subst}
+use Rattle.std.proofs.Common.{◌≡◌, ℕ, ◌<◌, ◌≤◌, List, [], ◌∷◌, Option, Some, None, Bool, true, false, length, nat_le, ◌&&◌, Result, Ok, refl, subst}
 use Rattle.eleos_trace.specs.declared.givers.Givers.{Givers}
 use Rattle.eleos_trace.specs.declared.givers.Givers.TheVariants as givers
 use Rattle.eleos_trace.specs.declared.header.Header.{Header}
 use Rattle.eleos_trace.specs.declared.seen.Seen.{Seen}
 use Rattle.eleos_trace.specs.declared.word.Actor as actors
-use Rattle.eleos_trace.specs.declared.word.Actor.TheVariants.{Swapper, Host}
+use Rattle.eleos_trace.specs.declared.word.Actor.TheVariants.{Swapper, Balloon, Host}
 use Rattle.eleos_trace.specs.declared.word.CallWord.{CallWord}
 use Rattle.eleos_trace.specs.declared.word.Word.{Word}
-use Rattle.eleos_trace.specs.declared.word.Word.TheVariants.{Alloc, Free, Share, Read, Write, Move, Flip, SwapPlaces, Call}
+use Rattle.eleos_trace.specs.declared.word.Word.TheVariants.{Alloc, Free, Share, Read, Write, Move, Flip, SwapPlaces, SwapRound, SetShare, Call}
 use Rattle.eleos_texts.specs.declared.why.Why.{Why}
 use Rattle.eleos_texts.specs.declared.why.Why.TheVariants.{Form, Many, Actor, Range, Enclave}
 use Rattle.eleos_texts.specs.Fields.{is_numeral, number, is_below, is_up_to, most_u32, is_name, is_hex, bytes_in}
 use Rattle.eleos_texts.specs.Reasons.{unless, one, two, three}
+use Rattle.eleos_base.specs.Limits.{most_frames}
 use Rattle.eleos_base.specs.Places.{all_frames, all_pages}
 use Rattle.eleos_trace.specs.Machines.{places}
 use Rattle.eleos_trace.specs.Calls.{call_named, call_of, most_call, with_call}
 use Rattle.eleos_trace.specs.Commands.{alloc_of, name_of, offset_of, read_of, write_of}
 use Rattle.eleos_trace.specs.Frames.{is_move, is_frame_move, is_owner, owner, owners_of, page_and_frame_of, move_of}
-use Rattle.eleos_trace.specs.Givers.{is_giver, admit}
+use Rattle.eleos_trace.specs.Actors.{is_swapper, is_balloon}
+use Rattle.eleos_trace.specs.Givers.{is_giver, admit, admit_round, admitted}
 use Rattle.eleos_trace.specs.Host.{flip_of, swap_of, place_of}
-use Rattle.eleos_trace.specs.Seen.{has_room}
+use Rattle.eleos_trace.specs.Rounds.{swap_round_of, balloon_of}
+use Rattle.eleos_trace.specs.Seen.{has_room, has_round_room}
 use Rattle.eleos_trace.specs.WholeHeader.{plan_of}
 use Rattle.eleos_trace.specs.declared.trace.Kind.{Kind}
 use Rattle.eleos_trace.specs.declared.trace.Kind.TheVariants.{Run, Replay}
@@ -28,7 +31,7 @@ use Rattle.eleos_base.specs.declared.plan.Plan.{Plan}
 use Rattle.eleos_trace.specs.Kinds.{MayGiveIn}
 use Rattle.eleos_trace.specs.Replays.{IsCallerOf, IsMove}
 use Rattle.eleos_texts.proofs.Inversion.{bind_ok, guard_ok, no_value, ok_is}
-use Rattle.eleos_trace.proofs.Permits.{room_of, both, le_of, up_to_of, caller_of, swapper_of, balloon_actor, host_of, below_of, two_below, place_and_bit, move_ok_owners}
+use Rattle.eleos_trace.proofs.Permits.{room_of, both, le_of, up_to_of, caller_of, swapper_of, balloon_actor, host_of, below_of, two_below, place_and_bit, move_ok_owners, of_enclave}
 
 -- there was room for the command, and the actor may give it in a trace of this kind
 pub record IsGiven (kind : Kind) (header : Header) (seen : Seen) (who : actors.Actor) (word : Word) : Type 0 where
@@ -73,13 +76,24 @@ module _ (header : Header) (seen : Seen) (who : actors.Actor) where
   pub given : (kind : Kind) (made word : Word) → seen.commands < 100000 → MayGiveIn kind (plan_of header) who made → ◌≡◌ {A = Result Word Why} (Ok made) (Ok word) → IsGiven kind header seen who word
   given kind made word room may is = subst (λ (w : Word). IsGiven kind header seen who w) (ok_is made word is) (record { room = room; may = may })
 
+  -- what is known of a command that passes the tests of every command
+  admitted_ok : (may : Givers) (form room : Bool) (x : Unit {0}) → admitted header who may form room ≡ Ok x → (form ≡ true) × (room ≡ true) × (is_giver header.plan may who ≡ true)
+  admitted_ok may form room x e =
+      let well = guard_ok form _ Form x e in
+      let many = guard_ok room _ Many x well.1 in
+      let actor = guard_ok (is_giver header.plan may who) _ Actor x many.1 in
+      (well.0, many.0, actor.0)
+
   -- what is known of a command that is admitted
   admit_ok : (may : Givers) (form : Bool) (x : Unit {0}) → admit header seen who may form ≡ Ok x → (form ≡ true) × (seen.commands < 100000) × (is_giver header.plan may who ≡ true)
-  admit_ok may form x e =
-      let well = guard_ok form _ Form x e in
-      let many = guard_ok (has_room seen) _ Many x well.1 in
-      let actor = guard_ok (is_giver header.plan may who) _ Actor x many.1 in
-      (well.0, room_of seen many.0, actor.0)
+  admit_ok may form x e = let tests = admitted_ok may form (has_room seen) x e in (tests.0, room_of seen tests.1, tests.2)
+
+  -- the same of a round of the swapper or a change of a share
+  admit_round_ok : (may : Givers) (form : Bool) (x : Unit {0}) → admit_round header seen who may form ≡ Ok x → (seen.commands < 100000) × (is_giver header.plan may who ≡ true)
+  admit_round_ok may form x e =
+      let tests = admitted_ok may form (has_room seen && has_round_room seen) x e in
+      let room = both (has_room seen) (has_round_room seen) (room_of seen) (λ test. test) tests.1 in
+      (room.0, tests.2)
 
   module _ (args : List (List ℕ)) where
     -- a name alone comes from a caller
@@ -204,3 +218,39 @@ module _ (header : Header) (seen : Seen) (who : actors.Actor) where
           let range = guard_ok _ _ _ word b.2 in
           let limits = two_below (places header.plan) (places header.plan) a.0.0 a.0.1 range.0 in
           given Replay (SwapPlaces (number a.0.0) (number a.0.1)) word admitted.1 (host_of who admitted.2, limits.0, limits.1) range.1
+
+      -- the same of a round of the swapper in a run: a caller gives it in its own enclave, or the swapper in any
+      pub swap_round_ok : swap_round_of header seen who givers.CallersOrSwapper args ≡ Ok word → IsGiven Run header seen who word
+      swap_round_ok e =
+          let a = bind_ok (two args) _ word e in
+          let b = bind_ok (admit_round header seen who givers.CallersOrSwapper (is_numeral a.0.0 && is_numeral a.0.1)) _ word a.2 in
+          let admitted = admit_round_ok givers.CallersOrSwapper _ b.0 b.1 in
+          let range = guard_ok _ _ _ word b.2 in
+          let own = guard_ok _ _ _ word range.1 in
+          let may = of_enclave header Swapper is_swapper (λ n. refl) swapper_of a.0.0 who admitted.1 own.0 in
+          given Run (SwapRound (number a.0.0) (number a.0.1)) word admitted.0 may own.1
+
+      -- the same of a change of a share in a run: a caller gives it of its own enclave, or the balloon of any, to at most 512 frames
+      pub balloon_ok : balloon_of header seen who givers.CallersOrBalloon args ≡ Ok word → IsGiven Run header seen who word
+      balloon_ok e =
+          let a = bind_ok (two args) _ word e in
+          let b = bind_ok (admit_round header seen who givers.CallersOrBalloon (is_numeral a.0.0 && is_numeral a.0.1)) _ word a.2 in
+          let admitted = admit_round_ok givers.CallersOrBalloon _ b.0 b.1 in
+          let range = guard_ok _ _ _ word b.2 in
+          let own = guard_ok _ _ _ word range.1 in
+          let may = of_enclave header Balloon is_balloon (λ n. refl) balloon_actor a.0.0 who admitted.1 own.0 in
+          given Run (SetShare (number a.0.0) (number a.0.1)) word admitted.0 (may, up_to_of most_frames a.0.1 range.0) own.1
+
+      -- nobody gives a round of the swapper in a replay
+      pub swap_round_no : swap_round_of header seen who givers.Nobody args ≡ Ok word → ⊥
+      swap_round_no e =
+          let a = bind_ok (two args) _ word e in
+          let b = bind_ok (admit_round header seen who givers.Nobody (is_numeral a.0.0 && is_numeral a.0.1)) _ word a.2 in
+          nobody (admit_round_ok givers.Nobody _ b.0 b.1).1
+
+      -- nor a change of a share
+      pub balloon_no : balloon_of header seen who givers.Nobody args ≡ Ok word → ⊥
+      balloon_no e =
+          let a = bind_ok (two args) _ word e in
+          let b = bind_ok (admit_round header seen who givers.Nobody (is_numeral a.0.0 && is_numeral a.0.1)) _ word a.2 in
+          nobody (admit_round_ok givers.Nobody _ b.0 b.1).1

@@ -1,5 +1,5 @@
 -- What the loop over commands knows at each line.
-use Rattle.std.proofs.Common.{◌≡◌, ℕ, ◌+◌, List, [], ◌∷◌, ◌++◌, Result, Ok, Err, false, true, sym, ◌∙◌, ap, append-nil, codes}
+use Rattle.std.proofs.Common.{◌≡◌, ℕ, ◌+◌, ◌≤◌, List, [], ◌∷◌, ◌++◌, Result, Ok, Err, Bool, false, true, cond, sym, ◌∙◌, ap, append-nil, arith, codes}
 use Rattle.std.specs.List.{slice_split}
 use Rattle.std.specs.Str.{bytes_eq}
 use Rattle.eleos_trace.specs.declared.trace.Line.{Line}
@@ -12,11 +12,19 @@ use Rattle.eleos_texts.specs.declared.why.LineRefused.{LineRefused}
 use Rattle.eleos_texts.specs.declared.why.LineRefused.TheVariants as line_refused
 use Rattle.eleos_texts.specs.Fields.{is_blank, is_newline}
 use Rattle.eleos_texts.specs.Reasons.{Fails, Reads, answer_at}
-use Rattle.eleos_trace.specs.Seen.{seen_after}
+use Rattle.eleos_trace.specs.declared.word.Word.{Word}
+use Rattle.eleos_trace.specs.Seen.{is_round, rounds_after, seen_after}
 use Rattle.eleos_trace.specs.Lines.{line_of}
 use Rattle.eleos_trace.specs.declared.header.Header.{Header}
 use Rattle.eleos_trace.specs.Reading.{commands_of}
 use Rattle.eleos_trace.proofs.Steps.{with_front, with_front-push, commands_of-end, commands_of-more, commands_of-bad, commands_of-cut}
+
+-- a command is at most one round more
+pub one_round : (rounds : ℕ) (word : Word) → rounds_after rounds word ≤ rounds + 1
+one_round rounds word = by (is_round word) where
+  by : (b : Bool) → cond b (rounds + 1) rounds ≤ rounds + 1
+  by true = omega arith
+  by false = omega arith
 
 -- front has the commands so far, and whole those of all lines
 module _ (header : Header) (line : ℕ) (seen : Seen) (front : List Line) (rest : List ℕ) (whole : Result (List Line × List (List ℕ)) Bad) (so_far : with_front front (commands_of header line seen (slice_split is_newline rest)) ≡ whole) where

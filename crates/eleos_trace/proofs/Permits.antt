@@ -1,8 +1,9 @@
 -- What single tests of a command say.
-use Rattle.std.proofs.Common.{◌≡◌, ℕ, ◌<◌, ◌≤◌, List, Bool, true, false, length, nat_le, ◌⊎◌, ◌&&◌, ◌||◌, refl, inl, inr, codes, arith}
+use Rattle.std.proofs.Common.{◌≡◌, ℕ, ◌<◌, ◌≤◌, ◌==◌, List, Bool, true, false, length, nat_le, ◌⊎◌, ◌&&◌, ◌||◌, refl, inl, inr, codes, arith}
 use Rattle.std.proofs.lemmas.Bool.Decides.{nat_tests}
 use Rattle.std.proofs.lemmas.Slice.Eq.{bytes_eq-Decides}
 use Rattle.eleos_base.specs.declared.plan.EnclavePlan.{EnclavePlan}
+use Rattle.eleos_base.specs.Plans.{enclave_of}
 use Rattle.eleos_trace.specs.declared.header.Header.{Header}
 use Rattle.eleos_trace.specs.declared.seen.Seen.{Seen}
 use Rattle.eleos_trace.specs.declared.word.Actor as actors
@@ -13,6 +14,8 @@ use Rattle.eleos_trace.specs.Actors.{is_swapper, is_balloon, is_host}
 use Rattle.eleos_trace.specs.Seen.{has_room}
 use Rattle.eleos_trace.specs.Frames.{is_pool, is_move, is_owner, owner}
 use Rattle.eleos_trace.specs.Host.{last_bit}
+use Rattle.eleos_trace.specs.Kinds.{IsOfEnclave}
+use Rattle.eleos_trace.specs.Rounds.{is_own}
 use Rattle.eleos_trace.specs.WholeHeader.{plan_of}
 use Rattle.eleos_trace.specs.Replays.{IsCallerOf, IsMove}
 
@@ -113,3 +116,28 @@ move_ok_owners header from to move owners =
       | inl pools ↦ rw (pools.0, pools.1) (enclave_of_owner header.plan.enclaves to (is_pool to) pools.1 each.1)
       | inr pools ↦ rw (pools.0, pools.1) (enclave_of_owner header.plan.enclaves from (is_pool from) pools.0 each.0)
     ]
+
+-- ---- rounds of the swapper and changes of shares
+
+-- of two tests of which one holds and the second does not, the first does
+first_holds : (p q : Bool) → q ≡ false → (p || q) ≡ true → p ≡ true
+first_holds true q fails test = refl
+first_holds false true fails test = absurd cc
+first_holds false false fails test = absurd cc
+
+same_number : (a b : ℕ) → (a == b) ≡ true → a ≡ b
+same_number a b test = grind (arith, nat_tests)
+
+-- an enclave that is declared
+declared : (header : Header) (text : List ℕ) → is_enclave header.plan.enclaves text ≡ true → number text < length header.plan.enclaves
+declared header text test = (both (is_numeral text) (is_below (length header.plan.enclaves) text) (λ numeral. numeral) (below_of (length header.plan.enclaves) text) test).1
+
+module _ (header : Header) (other : actors.Actor) (is_other : actors.Actor → Bool) (no_caller : (n : ℕ) → is_other (Caller n) ≡ false) (is_it : (who : actors.Actor) → is_other who ≡ true → who ≡ other) (text : List ℕ) where
+  -- a caller gives it in its own enclave, or that other actor in one that is declared
+  pub of_enclave : (who : actors.Actor) → (is_caller header.plan who || is_other who) ≡ true → is_own header.plan who text ≡ true → IsOfEnclave (plan_of header) other who (number text)
+  of_enclave (Caller n) may own =
+      let home : number text ≡ enclave_of header.plan n = (both (is_numeral text) (number text == enclave_of header.plan n) (λ numeral. numeral) (same_number (number text) (enclave_of header.plan n)) own).1 in
+      (caller_of header (Caller n) (first_holds (is_caller header.plan (Caller n)) (is_other (Caller n)) (no_caller n) may), home)
+  of_enclave Swapper may own = (is_it Swapper may, declared header text own)
+  of_enclave Balloon may own = (is_it Balloon may, declared header text own)
+  of_enclave Host may own = (is_it Host may, declared header text own)

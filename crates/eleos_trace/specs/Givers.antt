@@ -1,5 +1,5 @@
 -- Who may give a command, and for which kind of trace it is built.
-use Rattle.std.specs.Prelude.{[], ◌∷◌, Bool, true, false, ◌||◌, Result}
+use Rattle.std.specs.Prelude.{[], ◌∷◌, Bool, true, false, ◌&&◌, ◌||◌, Result}
 use Rattle.eleos_base.specs.declared.plan.Plan.{Plan}
 use Rattle.eleos_trace.specs.declared.givers.Givers.{Givers}
 use Rattle.eleos_trace.specs.declared.givers.Givers.TheVariants as givers
@@ -16,7 +16,7 @@ use Rattle.eleos_texts.specs.declared.why.Why.TheVariants.{Form, Many, Actor}
 use Rattle.eleos_texts.specs.Reasons.{unless}
 use Rattle.eleos_trace.specs.Actors.{is_swapper, is_balloon, is_host}
 use Rattle.eleos_trace.specs.Machines.{is_caller}
-use Rattle.eleos_trace.specs.Seen.{has_room}
+use Rattle.eleos_trace.specs.Seen.{has_room, has_round_room}
 
 -- the actor is one of them, where a caller has to be declared
 abbrev pub is_giver : Plan → Givers → actors.Actor → Bool
@@ -66,7 +66,7 @@ givers_of kind SwapRound = in_run kind givers.CallersOrSwapper
 givers_of kind Balloon = in_run kind givers.CallersOrBalloon
 givers_of kind Call = in_run kind givers.Callers
 
--- a command of a run that is built is one of a caller on its memory, or a call of the host; of a replay all are built that anybody may give
+-- a command of a run that is built is one of a caller on its memory, a round of the swapper, a change of a share, or a call of the host; of a replay all are built that anybody may give
 abbrev pub is_built : Kind → Verb → Bool
 is_built Replay verb = true
 is_built Run Alloc = true
@@ -74,13 +74,23 @@ is_built Run Free = true
 is_built Run Share = true
 is_built Run Read = true
 is_built Run Write = true
+is_built Run SwapRound = true
+is_built Run Balloon = true
 is_built Run Call = true
 is_built Run verb = false
 
 -- the tests of every command, which come before its own: its form, whether there is room for one more, and whether the actor may give it
-abbrev pub admit : Header → Seen → actors.Actor → Givers → Bool → Result (Unit {0}) Why
-admit header seen who may form = unless (
+abbrev pub admitted : Header → actors.Actor → Givers → Bool → Bool → Result (Unit {0}) Why
+admitted header who may form room = unless (
     (form, Form)
-    ∷ (has_room seen, Many)
+    ∷ (room, Many)
     ∷ (is_giver header.plan may who, Actor) ∷ [])
     tt
+
+-- those of a command behind the ones that were seen
+abbrev pub admit : Header → Seen → actors.Actor → Givers → Bool → Result (Unit {0}) Why
+admit header seen who may form = admitted header who may form (has_room seen)
+
+-- those of a round of the swapper or of a change of a share, of which there may be fewer
+abbrev pub admit_round : Header → Seen → actors.Actor → Givers → Bool → Result (Unit {0}) Why
+admit_round header seen who may form = admitted header who may form (has_room seen && has_round_room seen)

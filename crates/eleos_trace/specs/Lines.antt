@@ -50,8 +50,8 @@ word_of header seen who may args verbs.Unlink = later (pointer_of header seen wh
 word_of header seen who may args verbs.Step = later (step_of header seen who may args)
 word_of header seen who may args verbs.ReadAt = later (read_at_of header seen who may args)
 word_of header seen who may args verbs.WriteAt = later (write_at_of header seen who may args)
-word_of header seen who may args verbs.SwapRound = later (swap_round_of header seen who may args)
-word_of header seen who may args verbs.Balloon = later (balloon_of header seen who may args)
+word_of header seen who may args verbs.SwapRound = swap_round_of header seen who may args
+word_of header seen who may args verbs.Balloon = balloon_of header seen who may args
 word_of header seen who may args verbs.Call = call_of header seen who may args
 
 -- that command, where it is built for the kind

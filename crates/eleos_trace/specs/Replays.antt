@@ -5,7 +5,7 @@ use Rattle.eleos_base.specs.Plans.{IsCaller}
 use Rattle.eleos_trace.specs.declared.word.Actor as actors
 use Rattle.eleos_trace.specs.declared.word.Actor.TheVariants.{Caller, Swapper, Balloon, Host}
 use Rattle.eleos_trace.specs.declared.word.Word.{Word}
-use Rattle.eleos_trace.specs.declared.word.Word.TheVariants.{Alloc, Free, Share, Read, Write, Tie, Untie, Fill, Evict, Move, Flip, SwapPlaces, Keep, Restore, Call}
+use Rattle.eleos_trace.specs.declared.word.Word.TheVariants.{Alloc, Free, Share, Read, Write, Tie, Untie, Fill, Evict, Move, Flip, SwapPlaces, Keep, Restore, SwapRound, SetShare, Call}
 use Rattle.eleos_base.specs.Places.{all_frames, all_pages}
 use Rattle.eleos_trace.specs.Machines.{places}
 
@@ -41,4 +41,6 @@ MayGive plan who (Flip place bit) = (who ≡ Host) × (place < places plan) × (
 MayGive plan who (SwapPlaces a b) = (who ≡ Host) × (a < places plan) × (b < places plan)
 MayGive plan who (Keep place) = (who ≡ Host) × (place < places plan)
 MayGive plan who (Restore place) = (who ≡ Host) × (place < places plan)
+MayGive plan who (SwapRound enclave low) = ⊥
+MayGive plan who (SetShare enclave to) = ⊥
 MayGive plan who (Call call bytes room) = ⊥

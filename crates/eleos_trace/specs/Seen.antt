@@ -1,5 +1,5 @@
--- What was seen before a command: how many commands, and the names that each caller bound.
-use Rattle.std.specs.Prelude.{ℕ, ◌+◌, ◌-◌, List, length, replicate, Bool, false, ◌||◌, nat_lt, slice_index_or, slice_set}
+-- What was seen before a command: how many commands, how many of them rounds of the swapper or changes of shares, and the names that each caller bound.
+use Rattle.std.specs.Prelude.{ℕ, ◌+◌, ◌-◌, List, length, replicate, Bool, true, false, ◌||◌, nat_lt, slice_index_or, slice_set, if◌then◌else◌}
 use Rattle.std.specs.FinSet as set
 use Rattle.std.specs.Ordering.{nat_cmp}
 use Rattle.std.specs.Cmp.Lexicographic.{slice_cmp}
@@ -10,7 +10,7 @@ use Rattle.eleos_trace.specs.declared.trace.Line.{Line}
 use Rattle.eleos_trace.specs.declared.word.Actor as actors
 use Rattle.eleos_trace.specs.declared.word.Actor.TheVariants.{Caller}
 use Rattle.eleos_trace.specs.declared.word.Word.{Word}
-use Rattle.eleos_trace.specs.declared.word.Word.TheVariants.{Alloc}
+use Rattle.eleos_trace.specs.declared.word.Word.TheVariants.{Alloc, SwapRound, SetShare}
 use Rattle.eleos_trace.specs.Blocks.{has_name}
 
 -- commands of a trace
@@ -21,13 +21,27 @@ most_commands = 100000
 abbrev pub has_room : Seen → Bool
 has_room seen = nat_lt seen.commands most_commands
 
+-- rounds of the swapper and changes of shares among them
+abbrev pub most_rounds : ℕ
+most_rounds = 1000
+
+-- one more of these has room
+abbrev pub has_round_room : Seen → Bool
+has_round_room seen = nat_lt seen.rounds most_rounds
+
+-- the command is a round of the swapper or a change of a share
+abbrev pub is_round : Word → Bool
+is_round (SwapRound enclave low) = true
+is_round (SetShare enclave to) = true
+is_round _ = false
+
 -- names as a set
 abbrev pub NameSet : Type 0
 NameSet = set.FinSet (slice_cmp nat_cmp)
 
 -- before the first command no caller has bound a name
 abbrev pub nothing_seen : Header → Seen
-nothing_seen header = record { names = replicate (length header.plan.callers) set.empty; commands = 0 }
+nothing_seen header = record { names = replicate (length header.plan.callers) set.empty; commands = 0; rounds = 0 }
 
 -- the names that the caller with this number has bound
 abbrev pub names_of : List NameSet → ℕ → NameSet
@@ -47,6 +61,10 @@ abbrev pub names_after : List NameSet → actors.Actor → Word → List NameSet
 names_after names (Caller number) (Alloc name bytes) = with_name names number name
 names_after names _ _ = names
 
+-- how many rounds and changes there were after a command
+abbrev pub rounds_after : ℕ → Word → ℕ
+rounds_after rounds word = if is_round word then rounds + 1 else rounds
+
 -- what was seen after a command
 abbrev pub seen_after : Seen → Line → Seen
-seen_after seen line = record { names = names_after seen.names line.actor line.command; commands = seen.commands + 1 }
+seen_after seen line = record { names = names_after seen.names line.actor line.command; commands = seen.commands + 1; rounds = rounds_after seen.rounds line.command }

@@ -8,7 +8,7 @@ use Rattle.eleos_trace.specs.declared.trace.Kind.TheVariants.{Run, Replay}
 use Rattle.eleos_trace.specs.declared.word.Actor as actors
 use Rattle.eleos_trace.specs.declared.word.Actor.TheVariants.{Caller, Swapper, Balloon, Host}
 use Rattle.eleos_trace.specs.declared.word.Word.{Word}
-use Rattle.eleos_trace.specs.declared.word.Word.TheVariants.{Alloc, Free, Share, Read, Write, Tie, Untie, Fill, Evict, Move, Flip, SwapPlaces, Keep, Restore, Call}
+use Rattle.eleos_trace.specs.declared.word.Word.TheVariants.{Alloc, Free, Share, Read, Write, Tie, Untie, Fill, Evict, Move, Flip, SwapPlaces, Keep, Restore, SwapRound, SetShare, Call}
 use Rattle.eleos_trace.specs.Calls.{call_text}
 
 -- a kind of trace
@@ -37,6 +37,8 @@ fields (Flip place bit) = codes "flip" ∷ decimal place ∷ decimal bit ∷ []
 fields (SwapPlaces a b) = codes "swap" ∷ decimal a ∷ decimal b ∷ []
 fields (Keep place) = codes "keep" ∷ decimal place ∷ []
 fields (Restore place) = codes "restore" ∷ decimal place ∷ []
+fields (SwapRound enclave low) = codes "swap" ∷ decimal enclave ∷ decimal low ∷ []
+fields (SetShare enclave to) = codes "balloon" ∷ decimal enclave ∷ decimal to ∷ []
 fields (Call call bytes room) = codes "call" ∷ call_text call ∷ hex_text bytes ∷ decimal room ∷ []
 
 -- a command, as `write a 0 41`

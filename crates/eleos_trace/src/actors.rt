@@ -43,7 +43,8 @@ pub(crate) fn is_balloon(actor: Actor) -> bool
     matches!(actor, Actor::Balloon)
 }
 
-pub(crate) fn is_host(actor: Actor) -> bool
+/// Whether it is the host.
+pub fn is_host(actor: Actor) -> bool
     ensures { result ≡ is_host actor }
 {
     matches!(actor, Actor::Host)

@@ -1,7 +1,7 @@
 // Who may give a command, and for which kind of trace it is built.
 ghost use Rattle.std.specs.Prelude.{◌≡◌, List, ℕ};
 ghost use Rattle.eleos_trace.specs.Givers.{is_giver, in_run, in_replay, givers_of, is_built};
-ghost use Rattle.eleos_trace.specs.Givers.{admit};
+ghost use Rattle.eleos_trace.specs.Givers.{admit, admit_round, admitted};
 ghost use Rattle.eleos_trace.specs.Seen.{is_bound};
 ghost use Rattle.eleos_texts.specs.Reasons.{Reads};
 
@@ -87,7 +87,14 @@ pub(crate) fn is_built(kind: Kind, verb: Verb) -> bool
     match kind {
         Kind::Run => matches!(
             verb,
-            Verb::Alloc | Verb::Free | Verb::Share | Verb::Read | Verb::Write | Verb::Call
+            Verb::Alloc
+                | Verb::Free
+                | Verb::Share
+                | Verb::Read
+                | Verb::Write
+                | Verb::SwapRound
+                | Verb::Balloon
+                | Verb::Call
         ),
         Kind::Replay => true,
     }
@@ -110,10 +117,26 @@ impl<'a> Asked<'a> {
         ensures { Reads (λ x. x) result
             (admit self.now.header.now self.now.seen.now self.now.actor self.now.givers form) }
     {
+        self.admitted(form, self.seen.has_room())
+    }
+
+    /// The same of a round of the swapper or of a change of a share, of which there may be fewer.
+    pub(crate) fn admit_round(&self, form: bool) -> Result<(), LineRefused>
+        ensures { Reads (λ x. x) result (admit_round self.now.header.now self.now.seen.now
+            self.now.actor self.now.givers form) }
+    {
+        self.admitted(form, self.seen.has_room() && self.seen.has_round_room())
+    }
+
+    /// These tests, where there is room for one more command or not.
+    fn admitted(&self, form: bool, room: bool) -> Result<(), LineRefused>
+        ensures { Reads (λ x. x) result
+            (admitted self.now.header.now self.now.actor self.now.givers form room) }
+    {
         if !form {
             return refused(Why::Form);
         }
-        if !self.seen.has_room() {
+        if !room {
             return refused(Why::Many);
         }
         if !is_giver(&self.header.plan, self.givers, self.actor) {

@@ -19,8 +19,8 @@ mod trace;
 mod verbs;
 mod word;
 
-pub use actors::actor_of;
-pub use machines::places;
+pub use actors::{actor_of, is_host};
+pub use machines::{all_frames, places};
 pub use reading::{line_count, parse, parse_prefix};
 pub use trace::{Kind, Line, Trace};
 pub use word::{Actor, CallWord, Word};

@@ -115,14 +115,14 @@ fn word_of(alloc: Global, asked: &Asked, verb: Verb, args: &[&[u8]]) -> Result<W
             return Ok(Word::Restore { place });
         }
         Verb::Call => return call_of(alloc, asked, args),
+        Verb::SwapRound => return swap_round_of(asked, args),
+        Verb::Balloon => return balloon_of(asked, args),
         Verb::Point => point_of(asked, args)?,
         Verb::Copy => copy_of(asked, args)?,
         Verb::Drop | Verb::Link | Verb::Unlink => pointer_of(asked, args)?,
         Verb::Step => step_of(asked, args)?,
         Verb::ReadAt => read_at_of(asked, args)?,
         Verb::WriteAt => write_at_of(alloc, asked, args)?,
-        Verb::SwapRound => swap_round_of(asked, args)?,
-        Verb::Balloon => balloon_of(asked, args)?,
     }
     refused(Why::Later)
 }

@@ -34,9 +34,9 @@ pub(crate) fn all_pages(plan: &Plan) -> u32
     pages_of(plan.enclaves.as_slice())
 }
 
-/// Its frames, those of the pool included.
+/// The frames of a machine, those of the pool included.
 #[tactic(auto, using(crate::proofs::Counts::frames_are))]
-pub(crate) fn all_frames(plan: &Plan) -> u32
+pub fn all_frames(plan: &Plan) -> u32
     requires { IsGood plan.now }
     ensures { result ≡ all_frames plan.now }
 {

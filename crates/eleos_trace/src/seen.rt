@@ -1,6 +1,7 @@
 // What was seen of a trace so far.
 ghost use Rattle.std.specs.Prelude.{◌≡◌, ◌<◌, ◌^◌, IfOk, OnOk};
 ghost use Rattle.eleos_trace.specs.Seen.{nothing_seen, seen_after, is_bound, has_room};
+ghost use Rattle.eleos_trace.specs.Seen.{has_round_room, is_round};
 
 use crate::header::{Header, has_name};
 use crate::machines::enclave_of;
@@ -11,11 +12,16 @@ use std::alloc::{AllocError, Global};
 /// Commands of a trace.
 const MOST_COMMANDS: u32 = 100_000;
 
-/// The names that each caller has bound, and how many commands there were.
+/// Rounds of the swapper and changes of shares among them.
+const MOST_ROUNDS: u32 = 1_000;
+
+/// The names that each caller has bound, how many commands there were, and how many of them were
+/// rounds of the swapper or changes of shares.
 #[derive(Drop)]
 pub struct Seen {
     pub names: ByCaller,
     pub commands: u32,
+    pub rounds: u32,
 }
 
 impl Seen {
@@ -25,6 +31,7 @@ impl Seen {
         Ok(Seen {
             names: ByCaller::of(alloc, header.plan.callers.len())?,
             commands: 0,
+            rounds: 0,
         })
     }
 
@@ -51,15 +58,33 @@ impl Seen {
         self.commands < MOST_COMMANDS
     }
 
+    /// Whether there is room for one more round of the swapper or change of a share.
+    pub(crate) fn has_round_room(&self) -> bool
+        ensures { result ≡ has_round_room self.now }
+    {
+        self.rounds < MOST_ROUNDS
+    }
+
     /// Takes in a command.
     pub(crate) fn add(&mut self, alloc: Global, line: &Line) -> Result<(), AllocError>
-        requires { self.old.commands < 2 ^ 31 }
+        requires commands { self.old.commands < 2 ^ 31 }
+        requires rounds { self.old.rounds < 2 ^ 31 }
         ensures { OnOk result (self.new ≡ seen_after self.old line.now) }
     {
         if let (Actor::Caller(number), Word::Alloc { name, .. }) = (line.actor, &line.command) {
             self.names.add(alloc, number, name.as_slice())?;
         }
         self.commands += 1;
+        if is_round(&line.command) {
+            self.rounds += 1;
+        }
         Ok(())
     }
+}
+
+/// Whether it is a round of the swapper or a change of a share.
+fn is_round(command: &Word) -> bool
+    ensures { result ≡ is_round command.now }
+{
+    matches!(command, Word::SwapRound { .. } | Word::SetShare { .. })
 }

@@ -88,6 +88,16 @@ pub enum Word {
     Restore {
         place: u32,
     },
+    /// A round of the swapper: the enclave is to have so many free frames.
+    SwapRound {
+        enclave: u32,
+        low: u32,
+    },
+    /// A change of the enclave's share to so many frames.
+    SetShare {
+        enclave: u32,
+        to: u32,
+    },
     /// A call of the host: the bytes of the job, and the room for the reply in bytes.
     Call {
         call: CallWord,

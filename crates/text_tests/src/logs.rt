@@ -38,17 +38,25 @@ const REPLAYED: &str = "0 c1 alloc a 5000 = at 0
 end 18446744073709551615
 ";
 
-/// A log of a run with a block that did not pass, which is left out here, one without a frame, and
-/// calls of the host.
+/// A log of a run with a block that did not pass, which is left out here, one without a frame,
+/// rounds of the swapper, changes of shares, and calls of the host.
 const RAN: [&str; 2] = [
     "0 c1 alloc a 1 = at 0\n1 c8 write a 0 41 = ok\n2 c2 read a 0 1 = tampered 3 ",
     "\n3 c1 read a 0 1 = noframe\n4 c1 read a 0 1 = noframe 0:1 12:18446744073709551615\n5 s evict 0 0 = put 0
+6 s swap 0 1 = enough 1 0:0
+7 c1 swap 4294967295 0 = enough 0
+8 c1 swap 0 2 = swept 1 0:0 3:258
+9 b move 2 - 0 = ok
+10 b balloon 0 2 = done 2
+11 c2 balloon 1 512 = short 4 7:1
+12 c1 balloon 0 0 = pinned 2 0:258 1:18446744073709551615
+- h swap 0 1 = ok
 - c1 call echo 0102 2 = reply 0 0102
 - c1 call put - 1024 = wrongid 18446744073709551615
 - c2 call get 00 4294967295 = toolong 3
 - c2 call cut ff 0 = badstatus 4
 - c8 call clock - 8 = reply 18446744073709551615 -
-end 6
+end 13
 ",
 ];
 
@@ -86,7 +94,7 @@ fn reads_and_prints_each_line(rt: HostRuntime) -> Result<(), Fail> {
 }
 
 /// Logs that begin at line 7, with the bad line and its reason.
-const BAD: [(Kind, &str, u32, Why); 30] = [
+const BAD: [(Kind, &str, u32, Why); 35] = [
     (Kind::Replay, "", 7, Why::Cut),
     (Kind::Replay, "end 0", 7, Why::Cut),
     (Kind::Replay, "- c1 free a = skipped\n", 8, Why::Cut),
@@ -179,6 +187,26 @@ const BAD: [(Kind, &str, u32, Why); 30] = [
     (
         Kind::Replay,
         "- c1 free a = wrongid 1\nend 0\n",
+        7,
+        Why::Form,
+    ),
+    (Kind::Run, "0 c1 swap 0 1 = enough\nend 1\n", 7, Why::Form),
+    (
+        Kind::Run,
+        "0 b balloon 0 1 = done 1 0:0\nend 1\n",
+        7,
+        Why::Form,
+    ),
+    (
+        Kind::Run,
+        "0 b balloon 0 4294967296 = done 1\nend 1\n",
+        7,
+        Why::Form,
+    ),
+    (Kind::Replay, "0 b balloon 0 1 = ok\nend 1\n", 7, Why::Form),
+    (
+        Kind::Replay,
+        "0 h swap 0 1 = swept 0\nend 1\n",
         7,
         Why::Form,
     ),

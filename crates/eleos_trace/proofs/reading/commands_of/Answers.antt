@@ -6,7 +6,7 @@ use Rattle.eleos_trace.specs.Kinds.{MayGiveIn}
 use Rattle.eleos_trace.proofs.Chosen.{line_ok}
 use Rattle.eleos_trace.proofs.Good.{All-push}
 use Rattle.eleos_texts.proofs.Answers.{read_ok}
-use Rattle.eleos_trace.proofs.Loop.{at_cut, at_end, at_bad, at_command}
+use Rattle.eleos_trace.proofs.Loop.{at_cut, at_end, at_bad, at_command, one_round}
 use Rattle.eleos_trace.proofs.reading.commands_of.Goals as goal
 
 pub returns-then-is_end-clause-given : goal.returns-then-is_end-clause-given
@@ -29,6 +29,7 @@ loop-front-preserved c =
     rw (c.in_ok-push.ensures.items, c.in_ok-add.ensures) (record {
       line = omega arith;
       room = omega (arith, may.room);
+      rounds = let step = one_round c.loop-front.seen.rounds c.in_ok-command.command.command in omega (arith, step);
       count = rw (length_push c.loop-front.lines.items c.in_ok-command.command) (omega arith);
       given = All-push (λ line. MayGiveIn c.args.header.now.kind (plan_of c.args.header.now) line.actor line.command) c.loop-front.lines.items c.in_ok-command.command c.loop-front.invariant.given may.may;
       whole = at_command c.args.header.now c.loop-front.line c.loop-front.seen c.loop-front.lines.items c.loop-front.rest.now _ c.loop-front.invariant.whole

@@ -14,6 +14,7 @@ abbrev pub invariant-loop-front : goal.invariant-loop-front
 invariant-loop-front l = record {
   line : l.line + length l.rest ≤ length l.text + 1000;
   room : l.seen.commands ≤ 100000;
+  rounds : l.seen.rounds ≤ l.seen.commands;
   count : length l.lines.items ≡ l.seen.commands;
   given : All (λ line. MayGiveIn l.header.kind (plan_of l.header) line.actor line.command) l.lines.items;
   whole : with_front l.lines.items (commands_of l.header l.line l.seen (slice_split is_newline l.rest)) ≡ commands_of l.header (header_lines l.header + 1) (nothing_seen l.header) (slice_split is_newline l.text);
