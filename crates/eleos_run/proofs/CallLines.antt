@@ -1,8 +1,6 @@
 -- Calls of the host in the lines of callers.
-use Rattle.std.proofs.Common.{◌≡◌, ◌≢◌, ℕ, ◌+◌, ◌-◌, ◌<◌, ◌≤◌, ◌==◌, Bool, true, false, cond, List, [], ◌∷◌, ◌++◌, filter, length, map, refl, sym, ap, ◌∙◌, subst, arith, append-nil, append_assoc}
-use mathlib.Core.Logic.{dite}
-use native.Mathlib.Decide.{ℕ_discrete}
-use Rattle.std.proofs.lemmas.Bool.Decides.{nat_tests}
+use Rattle.std.proofs.Common.{◌≡◌, ℕ, ◌+◌, ◌-◌, ◌<◌, ◌≤◌, Bool, true, false, cond, List, [], ◌∷◌, ◌++◌, length, map, refl, sym, ap, ◌∙◌, subst, arith, append-nil, append_assoc}
+use Rattle.std.specs.List.{AllByRecursion}
 use Rattle.eleos_machine.specs.Machines.{Site}
 use Rattle.eleos_report.specs.declared.answer.Answer.{Answer}
 use Rattle.eleos_report.specs.declared.line.LogLine.{LogLine}
@@ -16,14 +14,16 @@ use Rattle.eleos_trace.specs.declared.trace.Trace.{Trace}
 use Rattle.eleos_trace.specs.declared.word.Actor.{Actor}
 use Rattle.eleos_trace.specs.declared.word.Actor.TheVariants.{Caller}
 use Rattle.eleos_trace.specs.declared.word.Word.{Word}
-use Rattle.eleos_trace.specs.declared.word.Word.TheVariants.{Alloc, Free, Share, Read, Write, Tie, Untie, Fill, Evict, Move, Flip, SwapPlaces, Keep, Restore, Call}
-use Rattle.eleos_meaning.specs.Table.{Shown, is_called}
-use Rattle.eleos_meaning.specs.Told.{Told, line_of}
+use Rattle.eleos_trace.specs.declared.word.Word.TheVariants.{Call}
+use Rattle.eleos_meaning.specs.Table.{Shown, is_called, shown as shown_as}
+use Rattle.eleos_meaning.specs.Told.{Told, answer_in, line_of}
 use Rattle.eleos_run.specs.declared.jobs.Job.{Job}
 use Rattle.eleos_run.specs.declared.tasks.Task.{Task}
 use Rattle.eleos_run.specs.Callers.{AreDoneJobs, lines_of}
-use Rattle.eleos_run.specs.Calls.{AllCalled, AreCalled, IsCalled, called_answer, calls_after, calls_in, is_line_of, lines_by, shown_in}
+use Rattle.eleos_run.specs.Calls.{AllCalled, AreCalled, IsCalled, IsNoCall, called_answer, calls_after, calls_in, is_line_of, lines_by, shown_in}
 use Rattle.eleos_run.specs.Jobs.{HasCalled, HasSpoken}
+use Rattle.eleos_run.specs.Lines.{actor_at, is_same_actor}
+use Rattle.eleos_run.proofs.Actors.{apart_caller, same_caller}
 
 -- what is printed behind a call says what the call came to
 pub called_is : (called : Called) (buffer : List ℕ) → is_called (called_answer called buffer) ≡ true
@@ -39,32 +39,41 @@ shown_append [] ys = refl
 shown_append (Said stamp actor word reply ∷ xs) ys = ap (λ z. (word, reply) ∷ z) (shown_append xs ys)
 shown_append (End count ∷ xs) ys = shown_append xs ys
 
-calls_more : (made : ℕ) (xs : List Shown) (word : Word) (reply : Answer) → calls_in made (xs ++ (word, reply) ∷ []) ≡ calls_after (calls_in made xs) word
-calls_more made [] word reply = refl
-calls_more made (x ∷ xs) word reply = calls_more (calls_after made x.0) xs word reply
+shown_lines : (who : Actor) (told : List Told) → shown_in (map (line_of who) told) ≡ map shown_as told
+shown_lines who [] = refl
+shown_lines who (one ∷ told) = ap (λ z. shown_as one ∷ z) (shown_lines who told)
+
+calls_append : (made : ℕ) (xs ys : List Shown) → calls_in made (xs ++ ys) ≡ calls_in (calls_in made xs) ys
+calls_append made [] ys = refl
+calls_append made (x ∷ xs) ys = calls_append (calls_after made x.0) xs ys
+
+-- ---- lines that are no calls
+
+no_call : (made : ℕ) (word : Word) → IsNoCall word → calls_after made word ≡ made
+no_call made (Call call bytes room) none = absurd none
+no_call made _ none = refl
+
+calls_none : (made : ℕ) (way : List Told) → AllByRecursion (λ (one : Told). IsNoCall one.word) way → calls_in made (map shown_as way) ≡ made
+calls_none made [] none = refl
+calls_none made (one ∷ way) none = ap (λ (n : ℕ). calls_in n (map shown_as way)) (no_call made one.word none.0) ∙ calls_none made way none.1
 
 -- a command makes at most one call
 pub one_call_more : (made : ℕ) (word : Word) → calls_after made word ≤ made + 1
-one_call_more made (Alloc name bytes) = omega arith
-one_call_more made (Free name) = omega arith
-one_call_more made (Share name) = omega arith
-one_call_more made (Read name offset len) = omega arith
-one_call_more made (Write name offset bytes) = omega arith
-one_call_more made (Tie name offset) = omega arith
-one_call_more made (Untie name offset) = omega arith
-one_call_more made (Fill page frame) = omega arith
-one_call_more made (Evict page frame) = omega arith
-one_call_more made (Move frame from to) = omega arith
-one_call_more made (Flip place bit) = omega arith
-one_call_more made (SwapPlaces a b) = omega arith
-one_call_more made (Keep place) = omega arith
-one_call_more made (Restore place) = omega arith
 one_call_more made (Call call bytes room) = omega arith
+one_call_more made _ = omega arith
 
 module _ (shown written : ℕ → ℕ → Type 0) where
-  called_more : (client made : ℕ) (xs : List Shown) (word : Word) (reply : Answer) → AreCalled shown written client made xs → IsCalled shown written client (calls_in made xs) word reply → AreCalled shown written client made (xs ++ (word, reply) ∷ [])
-  called_more client made [] word reply all one = (one, tt)
-  called_more client made (x ∷ xs) word reply all one = (all.0, called_more client (calls_after made x.0) xs word reply all.1 one)
+  no_reply : (client made : ℕ) (word : Word) (reply : Answer) → IsNoCall word → IsCalled shown written client made word reply
+  no_reply client made (Call call bytes room) reply none = absurd none
+  no_reply client made _ reply none = tt
+
+  called_none_of : (client made : ℕ) (way : List Told) → AllByRecursion (λ (one : Told). IsNoCall one.word) way → AreCalled shown written client made (map shown_as way)
+  called_none_of client made [] none = tt
+  called_none_of client made (one ∷ way) none = (no_reply client made one.word (answer_in one.came) none.0, called_none_of client (calls_after made one.word) way none.1)
+
+  called_append : (client made : ℕ) (xs ys : List Shown) → AreCalled shown written client made xs → AreCalled shown written client (calls_in made xs) ys → AreCalled shown written client made (xs ++ ys)
+  called_append client made [] ys all more = more
+  called_append client made (x ∷ xs) ys all more = (all.0, called_append client (calls_after made x.0) xs ys all.1 more)
 
 module _ {P C : Type 0} (shown written : ℕ → ℕ → Type 0) where
   -- a job without lines has made no call
@@ -78,26 +87,27 @@ module _ {P C : Type 0} (shown written : ℕ → ℕ → Type 0) where
   pub called_next : (client : ℕ) (j before after : Job P C) (task : Task) → HasCalled shown written client j → before.ring ≡ j.ring → before.lines.items ≡ j.lines.items → HasSpoken shown written task before after → HasCalled shown written client after
   called_next client j before after task h ring lines s =
       let old : List Shown = shown_in j.lines.items in
+      let way : List Shown = map shown_as s.way in
+      let one : List Shown = (task.command, s.reply) ∷ [] in
       let is : before.ring ≡ idle client (calls_in 0 old) = ring ∙ h.ring in
-      let all : shown_in after.lines.items ≡ old ++ (task.command, s.reply) ∷ [] =
-      ap shown_in s.line ∙ (shown_append before.lines.items (Said s.stamp s.actor task.command s.reply ∷ []) ∙ ap (λ (ls : List LogLine). shown_in ls ++ (task.command, s.reply) ∷ []) lines) in
-      let one = subst (λ (r : RingState). IsCalled shown written r.client r.posts task.command s.reply) is s.called in
+      let all : shown_in after.lines.items ≡ (old ++ way) ++ one =
+      ap shown_in s.line ∙ (shown_append (before.lines.items ++ map (line_of before.actor) s.way) (Said s.stamp s.actor task.command s.reply ∷ [])
+      ∙ ap (λ (z : List Shown). z ++ one) (shown_append before.lines.items (map (line_of before.actor) s.way) ∙ (λ i. shown_in (lines i) ++ shown_lines before.actor s.way i))) in
+      let none : calls_in 0 (old ++ way) ≡ calls_in 0 old = calls_append 0 old way ∙ calls_none (calls_in 0 old) s.way s.no_calls in
+      let mine = subst (λ (r : RingState). IsCalled shown written r.client r.posts task.command s.reply) is s.called in
+      let many : calls_in 0 ((old ++ way) ++ one) ≡ calls_after (calls_in 0 old) task.command = calls_append 0 (old ++ way) one ∙ ap (λ (n : ℕ). calls_after n task.command) none in
       record {
-        ring = s.ring ∙ (ap (λ (r : RingState). idle r.client (calls_after r.posts task.command)) is ∙ ap (idle client) (sym (ap (calls_in 0) all ∙ calls_more 0 old task.command s.reply)));
-        called = subst (AreCalled shown written client 0) (sym all) (called_more shown written client 0 old task.command s.reply h.called one);
+        ring = s.ring ∙ (ap (λ (r : RingState). idle r.client (calls_after r.posts task.command)) is ∙ ap (idle client) (sym (ap (calls_in 0) all ∙ many)));
+        called = subst (AreCalled shown written client 0) (sym all) (called_append shown written client 0 (old ++ way) one
+            (called_append shown written client 0 old way h.called (called_none_of shown written client (calls_in 0 old) s.way s.no_calls))
+            (subst (λ (n : ℕ). IsCalled shown written client n task.command s.reply) (sym none) mine, tt));
       }
 
   -- and the task made at most one call
   pub calls_next : (before after : Job P C) (task : Task) → HasSpoken shown written task before after → after.ring.posts ≤ before.ring.posts + 1
   calls_next before after task s = let is = ap (λ (r : RingState). r.posts) s.ring in let one = one_call_more before.ring.posts task.command in omega (arith, is, one)
 
--- ---- the lines of all callers
-
-eq_true : (a b : ℕ) → a ≡ b → (a == b) ≡ true
-eq_true a b same = grind (arith, nat_tests)
-
-eq_false : (a b : ℕ) → a ≢ b → (a == b) ≡ false
-eq_false a b apart = grind (arith, nat_tests)
+-- ---- the lines of all actors
 
 by_append : (who : Actor) (xs ys : List LogLine) → lines_by who (xs ++ ys) ≡ lines_by who xs ++ lines_by who ys
 by_append who [] ys = refl
@@ -106,15 +116,15 @@ by_append who (x ∷ xs) ys = go (is_line_of who x) (by_append who xs ys) where
   go true e = ap (λ z. x ∷ z) e
   go false e = e
 
-own_lines : (n m : ℕ) (told : List Told) → n ≡ m → lines_by (Caller m) (map (line_of (Caller n)) told) ≡ map (line_of (Caller n)) told
-own_lines n m [] same = refl
-own_lines n m (one ∷ told) same = ap (λ (b : Bool). cond b (line_of (Caller n) one ∷ lines_by (Caller m) (map (line_of (Caller n)) told)) (lines_by (Caller m) (map (line_of (Caller n)) told))) (eq_true n m same)
-    ∙ ap (λ z. line_of (Caller n) one ∷ z) (own_lines n m told same)
+own_lines : (actor who : Actor) (told : List Told) → is_same_actor actor who ≡ true → lines_by who (map (line_of actor) told) ≡ map (line_of actor) told
+own_lines actor who [] same = refl
+own_lines actor who (one ∷ told) same = ap (λ (b : Bool). cond b (line_of actor one ∷ lines_by who (map (line_of actor) told)) (lines_by who (map (line_of actor) told))) same
+    ∙ ap (λ z. line_of actor one ∷ z) (own_lines actor who told same)
 
-no_lines : (n m : ℕ) (told : List Told) → n ≢ m → lines_by (Caller m) (map (line_of (Caller n)) told) ≡ []
-no_lines n m [] apart = refl
-no_lines n m (one ∷ told) apart = ap (λ (b : Bool). cond b (line_of (Caller n) one ∷ lines_by (Caller m) (map (line_of (Caller n)) told)) (lines_by (Caller m) (map (line_of (Caller n)) told))) (eq_false n m apart)
-    ∙ no_lines n m told apart
+no_lines : (actor who : Actor) (told : List Told) → is_same_actor actor who ≡ false → lines_by who (map (line_of actor) told) ≡ []
+no_lines actor who [] apart = refl
+no_lines actor who (one ∷ told) apart = ap (λ (b : Bool). cond b (line_of actor one ∷ lines_by who (map (line_of actor) told)) (lines_by who (map (line_of actor) told))) apart
+    ∙ no_lines actor who told apart
 
 module _ {P C : Type 0} (gave took : ℕ → List ℕ → Type 0) (shown written : ℕ → ℕ → Type 0) (trace : Trace) (z : Site) where
   -- the lines of a job behind those of others
@@ -126,32 +136,35 @@ module _ {P C : Type 0} (gave took : ℕ → List ℕ → Type 0) (shown written
   none_before a [] count client below done = refl
   none_before a (j ∷ js) count client below done =
       let told = done.0.mine in
-      let none : lines_by (Caller (client + 1)) j.lines.items ≡ [] = ap (lines_by (Caller (client + 1))) told.lines_are ∙ no_lines (a + 1) (client + 1) (told.told ++ told.last) (λ e. omega (arith, e, below)) in
+      let none : lines_by (Caller (client + 1)) j.lines.items ≡ [] =
+      ap (lines_by (Caller (client + 1))) told.lines_are ∙ no_lines (actor_at trace (a + 1)) (Caller (client + 1)) (told.told ++ told.last) (apart_caller (length trace.plan.callers) (a + 1) (client + 1) (λ e. omega (arith, e, below))) in
       job_lines (Caller (client + 1)) j js count ∙ (ap (λ (ls : List LogLine). ls ++ lines_by (Caller (client + 1)) (lines_of js ++ End count ∷ [])) none ∙ none_before (a + 1) js count client (omega (arith, below)) done.1)
 
   -- in the lines of jobs that are done each call has its reply
-  all_from : (a : ℕ) (js : List (Job P C)) (count client : ℕ) → a ≤ client → AreDoneJobs gave took shown written trace z a js → AreCalled shown written client 0 (shown_in (lines_by (Caller (client + 1)) (lines_of js ++ End count ∷ [])))
-  all_from a [] count client low done = tt
-  all_from a (j ∷ js) count client low done = dite (ℕ_discrete client a) here (λ apart. beyond apart (all_from (a + 1) js count client (omega (arith, low, apart)) done.1)) where
-    here : client ≡ a → AreCalled shown written client 0 (shown_in (lines_by (Caller (client + 1)) (lines_of (j ∷ js) ++ End count ∷ [])))
-    here is =
-        let told = done.0.mine in
-        let mine : lines_by (Caller (client + 1)) j.lines.items ≡ j.lines.items =
-        ap (lines_by (Caller (client + 1))) told.lines_are ∙ (own_lines (a + 1) (client + 1) (told.told ++ told.last) (omega (arith, is)) ∙ sym told.lines_are) in
-        let all : lines_by (Caller (client + 1)) (lines_of (j ∷ js) ++ End count ∷ []) ≡ j.lines.items =
-        job_lines (Caller (client + 1)) j js count ∙ ((λ i. mine i ++ none_before (a + 1) js count client (omega (arith, is)) done.1 i) ∙ append-nil j.lines.items) in
-        let same : a + 1 - 1 ≡ client = omega (arith, is) in
-        subst (λ (q : ℕ × List LogLine). AreCalled shown written q.0 0 (shown_in q.1)) (λ i. (same i, sym all i)) done.0.called
+  all_from : (a : ℕ) (js : List (Job P C)) (count client : ℕ) → AreDoneJobs gave took shown written trace z a js → AreCalled shown written client 0 (shown_in (lines_by (Caller (client + 1)) (lines_of js ++ End count ∷ [])))
+  all_from a [] count client done = tt
+  all_from a (j ∷ js) count client done = go (is_same_actor (actor_at trace (a + 1)) (Caller (client + 1))) refl (all_from (a + 1) js count client done.1) where
+    rest : List LogLine
+    rest = lines_by (Caller (client + 1)) (lines_of js ++ End count ∷ [])
 
-    beyond : client ≢ a → AreCalled shown written client 0 (shown_in (lines_by (Caller (client + 1)) (lines_of js ++ End count ∷ []))) → AreCalled shown written client 0 (shown_in (lines_by (Caller (client + 1)) (lines_of (j ∷ js) ++ End count ∷ [])))
-    beyond apart others =
+    go : (b : Bool) → is_same_actor (actor_at trace (a + 1)) (Caller (client + 1)) ≡ b → AreCalled shown written client 0 (shown_in rest) → AreCalled shown written client 0 (shown_in (lines_by (Caller (client + 1)) (lines_of (j ∷ js) ++ End count ∷ [])))
+    go true same others =
         let told = done.0.mine in
-        let rest : List LogLine = lines_by (Caller (client + 1)) (lines_of js ++ End count ∷ []) in
+        let is = same_caller (length trace.plan.callers) (a + 1) (client + 1) same in
+        let at = is.0 in
+        let mine : lines_by (Caller (client + 1)) j.lines.items ≡ j.lines.items =
+        ap (lines_by (Caller (client + 1))) told.lines_are ∙ (own_lines (actor_at trace (a + 1)) (Caller (client + 1)) (told.told ++ told.last) same ∙ sym told.lines_are) in
+        let all : lines_by (Caller (client + 1)) (lines_of (j ∷ js) ++ End count ∷ []) ≡ j.lines.items =
+        job_lines (Caller (client + 1)) j js count ∙ ((λ i. mine i ++ none_before (a + 1) js count client (omega (arith, at)) done.1 i) ∙ append-nil j.lines.items) in
+        let number : a + 1 - 1 ≡ client = omega (arith, at) in
+        subst (λ (q : ℕ × List LogLine). AreCalled shown written q.0 0 (shown_in q.1)) (λ i. (number i, sym all i)) (done.0.called is.1)
+    go false apart others =
+        let told = done.0.mine in
         let none : lines_by (Caller (client + 1)) j.lines.items ≡ [] =
-        ap (lines_by (Caller (client + 1))) told.lines_are ∙ no_lines (a + 1) (client + 1) (told.told ++ told.last) (λ e. apart (omega (arith, e))) in
+        ap (lines_by (Caller (client + 1))) told.lines_are ∙ no_lines (actor_at trace (a + 1)) (Caller (client + 1)) (told.told ++ told.last) apart in
         let all : lines_by (Caller (client + 1)) (lines_of (j ∷ js) ++ End count ∷ []) ≡ rest = job_lines (Caller (client + 1)) j js count ∙ ap (λ (ls : List LogLine). ls ++ rest) none in
         subst (λ (ls : List LogLine). AreCalled shown written client 0 (shown_in ls)) (sym all) others
 
   -- in the log of jobs that are done each call of each caller has its reply
   pub all_called : (js : List (Job P C)) (log : List LogLine) (count : ℕ) → AreDoneJobs gave took shown written trace z 0 js → log ≡ lines_of js ++ End count ∷ [] → AllCalled shown written log
-  all_called js log count done is client = subst (λ (ls : List LogLine). AreCalled shown written client 0 (shown_in (lines_by (Caller (client + 1)) ls))) (sym is) (all_from 0 js count client (omega arith) done)
+  all_called js log count done is client = subst (λ (ls : List LogLine). AreCalled shown written client 0 (shown_in (lines_by (Caller (client + 1)) ls))) (sym is) (all_from 0 js count client done)

@@ -1,8 +1,11 @@
 -- A machine can be made of the plan of each run.
-use Rattle.std.proofs.Common.{◌≡◌, List, [], ◌∷◌, ◌++◌, length, take, Some, true, refl, sym, ap, ◌∙◌, subst, append_assoc}
+use Rattle.std.proofs.Common.{◌≡◌, ◌≤◌, arith, List, [], ◌∷◌, ◌++◌, length, take, Some, true, refl, sym, ap, ◌∙◌, subst, append_assoc}
 use Rattle.std.specs.Prelude.{slice_get}
 use Rattle.std.proofs.Math.Seq.{take-append_seam}
+use Rattle.std.proofs.lemmas.List.Sums.{sum-map}
+use Rattle.eleos_base.specs.Places.{all_frames}
 use Rattle.eleos_base.specs.declared.plan.BlockPlan.{BlockPlan}
+use Rattle.eleos_base.specs.declared.plan.EnclavePlan.{EnclavePlan}
 use Rattle.eleos_base.specs.declared.plan.Plan.{Plan}
 use Rattle.eleos_machine.specs.Judging.{AllFindRoom, CanBeMade, finds_room}
 use Rattle.eleos_trace.specs.declared.trace.Trace.{Trace}
@@ -30,3 +33,7 @@ rooms_behind plan before (block ∷ blocks) all each =
 -- a machine can be made of the plan of every trace of a run
 pub run_can_be_made : (trace : Trace) → IsRun trace → CanBeMade trace.plan
 run_can_be_made trace run = record { good = run.good; few_blocks = run.few_blocks; room = rooms_behind trace.plan [] trace.plan.blocks refl run.room }
+
+-- the machine of a run has few frames
+pub frames_few : (trace : Trace) → IsRun trace → all_frames trace.plan ≤ 512
+frames_few trace run = let same = sum-map (λ (made : EnclavePlan). made.frames) trace.plan.enclaves in let most = run.good.frames in omega (arith, same, most)

@@ -1,5 +1,5 @@
 -- What the lines of a log show of calls of the host.
-use Rattle.std.specs.Prelude.{◌≡◌, ℕ, ◌+◌, List, [], ◌∷◌, Bool, true, false, filter, replicate, take, Some}
+use Rattle.std.specs.Prelude.{◌≡◌, ℕ, ◌+◌, List, [], ◌∷◌, Bool, false, filter, replicate, take, Some}
 use Rattle.eleos_report.specs.declared.answer.Answer.{Answer}
 use Rattle.eleos_report.specs.declared.answer.Answer.TheVariants as answers
 use Rattle.eleos_report.specs.declared.line.LogLine.{LogLine}
@@ -41,6 +41,11 @@ refusal_answer BadStatus seen = answers.BadStatus seen
 abbrev pub called_answer : Called → List ℕ → Answer
 called_answer (Reply len status) buffer = answers.Replied status (take len buffer)
 called_answer (Refused why seen) buffer = refusal_answer why seen
+
+-- the command is no call of the host
+abbrev pub IsNoCall : Word → Type 0
+IsNoCall (Call call bytes room) = ⊥
+IsNoCall _ = Unit {0}
 
 -- how many calls a client has made behind this command, before which it made so many
 abbrev pub calls_after : ℕ → Word → ℕ

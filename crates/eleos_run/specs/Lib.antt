@@ -3,6 +3,7 @@ pub mod Calls
 pub mod Workers
 pub mod Steps
 pub mod Counts
+pub mod Surveys
 pub mod Tasks
 pub mod Jobs
 pub mod Callers

@@ -1,8 +1,10 @@
--- What one command of a caller does to its pass.
+-- What one command does to the pass of its actor.
 use Rattle.std.specs.Prelude.{◌≡◌, ℕ, ◌<◌, List, [], ◌∷◌, ◌++◌, length}
 use Rattle.eleos_alloc.specs.declared.changes.Change.{Change}
 use Rattle.eleos_alloc.specs.declared.changes.Change.TheVariants as changes
-use Rattle.eleos_base.specs.Plans.{IsCaller, enclave_of}
+use Rattle.eleos_base.specs.Places.{all_frames}
+use Rattle.eleos_base.specs.Plans.{enclave_of}
+use Rattle.eleos_core.specs.Legal.{IsActor}
 use Rattle.eleos_base.specs.declared.memory.Op.{Op}
 use Rattle.eleos_base.specs.declared.memory.Op.TheVariants as ops
 use Rattle.eleos_core.specs.declared.event.Event.TheVariants as events
@@ -18,16 +20,18 @@ use Rattle.eleos_meaning.specs.Table.{AnySaid, Gives, most_lines}
 use Rattle.eleos_meaning.specs.Told.{Came, Told, answer_in, made_in, made_of, stamp_in}
 use Rattle.eleos_core.specs.Parts.{Made}
 
--- the pass is a caller's of this machine, and has no turn
+-- the pass is an actor's of this machine, and has no turn and no pin
 pub record IsIdle (z : Site) (s : PassState) : Type 0 where
   pub own : s.hand.home ≡ z
-  pub caller : IsCaller (plan_at z) s.hand.number
+  pub actor : IsActor (plan_at z) s.hand.number
   pub turns : s.hand.turns ≡ []
+  pub pins : s.hand.pins ≡ []
 
--- the pass made these entries, and has no turn again
+-- the pass made these entries, and has no turn again, and the pins that it had
 pub record HasMade (s s' : PassState) (made : List Made) : Type 0 where
   pub goes : Goes core_terms s.hand s'.hand made
   pub turns : s'.hand.turns ≡ []
+  pub pins : s'.hand.pins ≡ s.hand.pins
 
 -- the enclave of the pass's caller
 abbrev pub home_of : Site → PassState → ℕ
@@ -45,7 +49,7 @@ pub record Speaks (z : Site) (command : Word) (way : List Told) (said : Spoken) 
   pub stamp_is : said.stamp ≡ stamp_in came
   pub reply_is : said.reply ≡ answer_in came
   pub gives : Gives AnySaid (plan_at z) (home_of z s) names command way came names'
-  pub few : length way < most_lines command
+  pub few : length way < most_lines (all_frames (plan_at z)) command
 
 -- the pass made these entries, all of them calls on blocks
 abbrev pub IsOnBlocks : Op → Type 0

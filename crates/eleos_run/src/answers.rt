@@ -36,7 +36,7 @@ pub(crate) struct Spoken {
 }
 
 /// The reply, with the stamp of the entry that the pass made last.
-fn stamped(pass: &Pass, reply: Answer) -> Spoken
+pub(crate) fn stamped(pass: &Pass, reply: Answer) -> Spoken
     ensures stamp { result.stamp ≡ Some (last_stamp (entries core_terms pass.now.hand)) }
     ensures reply { result.reply ≡ reply }
 {

@@ -5,12 +5,15 @@
 mod answers;
 mod callers;
 mod clients;
+mod frame_lines;
 mod host_calls;
 mod jobs;
 pub mod laws;
 mod making;
 mod parting;
+mod rounds;
 mod runs;
+mod shares;
 mod tasks;
 mod threads;
 mod workers;

@@ -1,5 +1,6 @@
 // What all callers leave, put together.
 ghost use Rattle.std.specs.Prelude.{vec_capacity, ◌≡◌, ◌≤◌, ◌<◌, ◌^◌, ◌∷◌, ◌++◌, [], length};
+ghost use Rattle.std.specs.Prelude.{sum_by};
 ghost use Rattle.std.specs.Prelude.{if◌then◌else◌};
 ghost use Rattle.eleos_report.specs.declared.line.LogLine.TheVariants.{End};
 ghost use Rattle.eleos_run.specs.Callers.{lines_of, passes_of};
@@ -11,15 +12,12 @@ use eleos_host::HostPort;
 use eleos_machine::Pass;
 use eleos_report::LogLine;
 
-/// The last of these passes.
-pub(crate) fn last_pass(passes: &mut Vec<Pass>) -> Pass
-    requires { 0 < length passes.old.items }
-    ensures { passes.old.items ≡ passes.new.items ++ result ∷ [] }
+/// How many lines there is room for in all these jobs.
+pub(crate) fn line_room<P: HostPort, C: Client>(jobs: &[Job<P, C>]) -> usize
+    requires { sum_by (λ job. vec_capacity job.lines) jobs.now < 2 ^ 32 }
+    ensures { result ≡ sum_by (λ job. vec_capacity job.lines) jobs.now }
 {
-    let Some(last) = passes.pop() else {
-        unreachable!()
-    };
-    last
+    jobs.iter().map(|job| job.lines.capacity()).sum()
 }
 
 /// Puts the passes of the jobs in one list, and their lines in another.
@@ -39,6 +37,7 @@ pub(crate) fn part<P: HostPort, C: Client>(
 {
     for job in jobs {
         let Job {
+            actor: _actor,
             pass,
             tap: _tap,
             ring: _ring,
@@ -55,19 +54,6 @@ pub(crate) fn part<P: HostPort, C: Client>(
             unreachable!()
         };
     }
-}
-
-/// One pass more, for which there is room.
-pub(crate) fn with_pass(passes: Vec<Pass>, pass: Pass) -> Vec<Pass>
-    requires { length passes.items < vec_capacity passes }
-    ensures passes { result.items ≡ passes.items ++ pass ∷ [] }
-    ensures room { vec_capacity passes ≤ vec_capacity result }
-{
-    let mut passes = passes;
-    let Ok(()) = passes.push(pass) else {
-        unreachable!()
-    };
-    passes
 }
 
 /// The lines, and behind them the number of those that have a stamp.

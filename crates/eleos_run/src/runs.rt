@@ -1,17 +1,18 @@
 //! A run: the machine is made, its callers run their programs, and it is closed.
-ghost use Rattle.std.specs.Prelude.{vec_capacity, ◌≡◌, ◌+◌, ◌<◌, ◌≤◌, [], length, IfOk, None};
+ghost use Rattle.std.specs.Prelude.{vec_capacity, ◌≡◌, ◌+◌, ◌<◌, ◌≤◌, ◌^◌, [], length, IfOk};
+ghost use Rattle.std.specs.Prelude.{None};
 ghost use Rattle.eleos_machine.specs.Closing.{AllOfMachine, HasClosed, close_fault, hands_of};
 ghost use Rattle.eleos_machine.specs.Machines.{IsMachine, all_passes};
 ghost use Rattle.eleos_trace.specs.Kinds.{IsRun};
-ghost use Rattle.eleos_turn.specs.Hands.{dealt, fresh};
-ghost use Rattle.eleos_run.specs.Callers.{AreDoneJobs};
+ghost use Rattle.eleos_turn.specs.Hands.{dealt};
+ghost use Rattle.eleos_run.specs.Callers.{AreDoneJobs, lines_of};
 ghost use Rattle.eleos_run.specs.Runs.{IsRunOf};
 ghost use Rattle.eleos_run.specs.Workers.{AreWorkers};
 
 use crate::clients::{Client, clients_of};
 use crate::jobs::Job;
 use crate::making::jobs_of;
-use crate::parting::{last_pass, part, with_end, with_pass};
+use crate::parting::{line_room, part, with_end};
 use crate::threads::perform_beside;
 use crate::workers::{Worker, workers_for, workers_of};
 use eleos_base::{Gate, List, NoMemory};
@@ -34,8 +35,8 @@ pub struct RunDone {
     pub pass: Pass,
 }
 
-/// Runs the programs of a trace's callers, each in a thread of its own where one can be made, over
-/// one machine with this host, beside workers that do the jobs of their calls by the words of this
+/// Runs the programs of a trace's callers, its swapper and its balloon, each in a thread of its own
+/// where one can be made, over one machine with this host, beside workers that do the jobs of their calls by the words of this
 /// ring. All memory is taken before they start.
 pub fn run<R: Threads + Wait + Sync, H: HostSpace + Sync, W: RingSpace, G: Gate + Sync>(
     rt: &R,
@@ -121,24 +122,19 @@ fn run_beside<
     ensures { IfOk result (λ done. IsRunOf H.Port.gave H.Port.took
         C.shown C.written trace.now done.pass done.log) }
 {
-    let mut callers = passes;
-    let balloon = last_pass(&mut callers);
-    let swapper = last_pass(&mut callers);
-    let jobs = jobs_of(alloc, trace, host, &machine, callers, clients)?;
-    let log = Vec::with_capacity(alloc, trace.lines.len() + 1)?;
-    let passes = Vec::with_capacity(alloc, jobs.len() + 2)?;
+    let jobs = jobs_of(alloc, trace, host, &machine, passes, clients)?;
+    let log = Vec::with_capacity(alloc, line_room(&jobs) + 1)?;
+    let passes = Vec::with_capacity(alloc, jobs.len())?;
     let jobs = perform_beside(rt, &machine, gate, workplace, jobs, workers);
-    Ok(finish(trace, machine, jobs, swapper, balloon, passes, log))
+    Ok(finish(trace, machine, jobs, passes, log))
 }
 
-/// Puts together what the callers left, in the room for all passes and for the log, and closes the
+/// Puts together what the actors left, in the room for all passes and for the log, and closes the
 /// machine.
 fn finish<P: HostPort, C: Client>(
     _trace: &Trace,
     machine: Machine<Gcm>,
     jobs: Vec<Job<P, C>>,
-    swapper: Pass,
-    balloon: Pass,
     passes: Vec<Pass>,
     log: Vec<LogLine>,
 ) -> RunDone
@@ -147,20 +143,17 @@ fn finish<P: HostPort, C: Client>(
     requires plan { machine.base.grounds.plan ≡ _trace.now.plan }
     requires key { machine.base.grounds.key ≡ _trace.now.key }
     requires done { AreDoneJobs P.gave P.took C.shown C.written _trace.now machine 0 jobs.items }
-    requires count { length jobs.items ≡ length _trace.now.plan.callers }
-    requires swapper { swapper.hand ≡ fresh machine (length _trace.now.plan.callers + 1) }
-    requires balloon { balloon.hand ≡ fresh machine (length _trace.now.plan.callers + 1 + 1) }
+    requires count { length jobs.items ≡ all_passes _trace.now.plan }
     requires no_passes { passes.items ≡ [] }
     requires no_lines { log.items ≡ [] }
-    requires passes_room { length jobs.items + 2 ≤ vec_capacity passes }
-    requires log_room { length _trace.now.lines + 1 ≤ vec_capacity log }
+    requires passes_room { length jobs.items ≤ vec_capacity passes }
+    requires log_room { length (lines_of jobs.items) + 1 ≤ vec_capacity log }
+    requires few { length (lines_of jobs.items) < 2 ^ 32 }
     ensures { IsRunOf P.gave P.took C.shown C.written _trace.now result.pass result.log }
 {
     let mut passes = passes;
     let mut lines = log;
     part(jobs, &mut passes, &mut lines);
-    let passes = with_pass(passes, swapper);
-    let passes = with_pass(passes, balloon);
     let pass = closed(machine, passes);
     let log = List::of(with_end(lines));
     RunDone { log, pass }

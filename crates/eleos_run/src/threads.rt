@@ -1,4 +1,4 @@
-// The programs of all callers, each in a thread of its own, beside the workers of the host.
+// The programs of all actors, each in a thread of its own, beside the workers of the host.
 ghost use Rattle.std.specs.Prelude.{ℕ, ◌≡◌, ◌<◌, length, slice_index_or};
 ghost use Rattle.std.specs.Thread.{IsSync};
 ghost use Rattle.eleos_run.specs.Jobs.{AreReady, HasRun, HaveRun, IsReadyJob};
@@ -94,7 +94,7 @@ fn perform_all<
     thread::for_each_mut(
         rt,
         jobs,
-        MOST_CALLERS as usize,
+        MOST_CALLERS as usize + 2,
         &|_k, job: &mut Job<P, C>|
             requires { IsReadyJob machine.now job.now }
             ensures { HasRun P.gave P.took C.shown C.written

@@ -16,7 +16,7 @@ use Rattle.eleos_core.proofs.Tests.{by_test}
 use Rattle.eleos_trace.specs.declared.word.Actor as actors
 use Rattle.eleos_trace.specs.declared.word.Actor.TheVariants.{Caller, Swapper, Balloon, Host}
 use Rattle.eleos_trace.specs.declared.word.Word.{Word}
-use Rattle.eleos_trace.specs.declared.word.Word.TheVariants.{Alloc, Free, Share, Read, Write, Tie, Untie, Fill, Evict, Move, Flip, SwapPlaces, Keep, Restore, Call}
+use Rattle.eleos_trace.specs.declared.word.Word.TheVariants.{Alloc, Free, Share, Read, Write, Tie, Untie, Fill, Evict, Move, Flip, SwapPlaces, Keep, Restore, SwapRound, SetShare, Call}
 use Rattle.eleos_trace.specs.Replays.{IsCallerOf, IsMove, MayGive}
 use Rattle.eleos_meaning.specs.declared.meanings.Meaning.{Meaning}
 use Rattle.eleos_meaning.specs.declared.meanings.Meaning.TheVariants.{Happens, Offends}
@@ -86,6 +86,8 @@ module _ (k : Plan) where
     means_within (SwapPlaces a b) given = tt
     means_within (Keep place) given = tt
     means_within (Restore place) given = tt
+    means_within (SwapRound enclave low) given = absurd given
+    means_within (SetShare enclave to) given = absurd given
     means_within (Call call bytes room) given = absurd given
 
 -- a command that its actor may give, where it means an event, means one of the plan's

@@ -16,9 +16,9 @@ returns-in-Free-clause-exchanged g c = block_exchanges g.P.HostPort.gave g.P.Hos
 pub returns-in-Share-clause-exchanged : goal.returns-in-Share-clause-exchanged
 returns-in-Share-clause-exchanged g c = block_exchanges g.P.HostPort.gave g.P.HostPort.took c.args.machine.now _ _ _ _ _ _ tt c.answer_change-in-Share.ensures
 
-pub returns-in-Call-clause-speaks : goal.returns-in-Call-clause-speaks
-returns-in-Call-clause-speaks g c = let reply = c.answer_call.ensures.reply in subst (λ (w : Word). Speaks c.args.machine.now w [] c.answer_call.result c.args.pass.now c.args.pass.now (names_in c.args.names.now) (names_in c.args.names.now)) (sym c.in-Call.is)
+pub returns-in-Some-clause-speaks : goal.returns-in-Some-clause-speaks
+returns-in-Some-clause-speaks g c = let reply = c.answer_call.ensures.reply in subst (λ (w : Word). Speaks c.args.machine.now w [] c.answer_call.result c.args.pass.now c.args.pass.now (names_in c.args.names.now) (names_in c.args.names.now)) (sym c.in-Call.is)
     (host_call c.args.machine.now _ _ _ reply.called reply.left c.answer_call.result c.args.pass.now (names_in c.args.names.now) c.answer_call.ensures.stamp reply.reply_is c.requires.can.no_turn)
 
-pub returns-in-Call-clause-exchanged : goal.returns-in-Call-clause-exchanged
-returns-in-Call-clause-exchanged g c = nothing_exchanges g.P.HostPort.gave g.P.HostPort.took c.args.machine.now c.args.pass.now
+pub returns-in-Some-clause-exchanged : goal.returns-in-Some-clause-exchanged
+returns-in-Some-clause-exchanged g c = nothing_exchanges g.P.HostPort.gave g.P.HostPort.took c.args.machine.now c.args.pass.now
