@@ -10,3 +10,5 @@ mod faults;
 mod lying;
 #[cfg(test)]
 mod meeting;
+#[cfg(test)]
+mod surveys;
